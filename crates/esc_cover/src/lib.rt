@@ -1,0 +1,3 @@
+//! What the literals and the classes of an open branch say: which terms are equal, which formulas hold, and what makes
+//! them a counterexample.
+#![tactic(auto)]
