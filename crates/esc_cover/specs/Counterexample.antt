@@ -1,5 +1,5 @@
 -- What a counterexample is: literals and classes that agree with each other and cover all formulas of a branch.
-use Rattle.std.specs.Prelude.{◌≡◌, ℤ, Bool, true, false, not, IsTrue, List, [], ◌∷◌, ◌++◌, map}
+use Rattle.std.specs.Prelude.{◌≡◌, ℤ, true, false, not, IsTrue, List, [], ◌∷◌, ◌++◌, map}
 use Rattle.std.specs.List.{All, Contains, flat_map}
 use Rattle.esc_term.specs.declared.term.Term.{Term}
 use Rattle.esc_term.specs.declared.term.Term.TheVariants.{Num}

@@ -2,14 +2,13 @@
 use Rattle.std.specs.Prelude.{Bool, true, false, not, ◌&&◌, IsTrue, List}
 use Rattle.std.specs.List.{list_all}
 use Rattle.esc_term.specs.declared.term.Head.{Head}
-use Rattle.esc_term.specs.declared.term.Head.TheVariants.{Name, Skolem, Add, Sub, Mul}
+use Rattle.esc_term.specs.declared.term.Head.TheVariants.{Name, Skolem}
 use Rattle.esc_term.specs.declared.term.Term.{Term}
 use Rattle.esc_term.specs.declared.term.Term.TheOpen.{Term-F}
 use Rattle.esc_term.specs.declared.term.Term.TheViews.{out-Term}
 use Rattle.esc_term.specs.declared.formula.Formula.{Formula}
 use Rattle.esc_term.specs.declared.formula.Formula.TheOpen.{Formula-F}
 use Rattle.esc_term.specs.declared.formula.Formula.TheViews.{out-Formula}
-use Rattle.esc_term.specs.declared.formula.Formula.TheVariants as formula
 use Rattle.esc_term.specs.declared.formula.Quant.{Quant}
 use Rattle.esc_term.specs.declared.formula.Item.{Item}
 use Rattle.esc_term.specs.Formula.{terms_of}
