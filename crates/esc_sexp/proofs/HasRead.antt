@@ -1,14 +1,13 @@
 -- What the parse has read: how it goes on, and what of it need not be kept.
-use Rattle.std.proofs.Common.{◌≡◌, ℕ, zero, suc, ◌+◌, ◌-◌, ◌<◌, ◌≤◌, Bool, true, false, ◌||◌, IsTrue, List, [], ◌∷◌, ◌++◌, length, take, drop, refl, sym, ap, subst, ◌∙◌, append_assoc, length-append, arith}
+use Rattle.std.proofs.Common.{◌≡◌, ℕ, zero, suc, ◌+◌, ◌-◌, ◌<◌, ◌≤◌, Bool, true, false, ◌||◌, List, [], ◌∷◌, ◌++◌, length, take, drop, refl, sym, ap, subst, ◌∙◌, append_assoc, length-append, arith}
 use Rattle.std.specs.Option.{IfSome}
 use Rattle.std.specs.Prelude.{Option, None, Some, get_or, set}
-use Rattle.std.proofs.Math.ListN.{drop_of_length-le}
 use Rattle.std.proofs.Math.Seq.{drop-append_seam, drop-length, take-suc}
 use Rattle.std.proofs.lemmas.List.{at_drop_more, drop-take, length-set, length-take-le}
 use Rattle.esc_sexp.specs.declared.parse.OpenList.{OpenList}
 use Rattle.esc_sexp.specs.declared.parse.Token.{Token}
 use Rattle.esc_sexp.specs.declared.parse.Token.TheVariants as token
-use Rattle.esc_sexp.specs.Parse.{Standing, After, goes, nothing_begun, is_text, has_begun, steps}
+use Rattle.esc_sexp.specs.Parse.{Standing, goes, nothing_begun, is_text, has_begun, steps}
 use Rattle.esc_sexp.specs.Grammar as grammar
 use Rattle.esc_sexp.specs.Grammar.{is_any, is_apart, Opens, Begins, outermost, begun_at, max_length}
 use Rattle.esc_sexp.specs.Reading.{reading, Timely, HasRead, IsEnough}
@@ -17,7 +16,7 @@ use Rattle.esc_sexp.proofs.Times.{room_of, KeepsTime, steps-time}
 use Rattle.esc_sexp.proofs.Tellings.{begun}
 use Rattle.esc_sexp.proofs.Reaches.{reading-goes}
 use Rattle.esc_sexp.proofs.Fronts.{same_between, same_remark}
-use Rattle.esc_sexp.proofs.Beginnings.{Reached, begins_reached}
+use Rattle.esc_sexp.proofs.Beginnings.{begins_reached}
 
 -- ---- going on
 
