@@ -1,0 +1,3 @@
+pub mod Formulas
+pub mod Names
+pub mod Terms

@@ -1,0 +1,13 @@
+//! How names, terms and formulas are printed.
+#![tactic(auto)]
+
+mod formulas;
+mod names;
+mod notes;
+mod numbers;
+mod terms;
+
+pub use formulas::{put_formula, put_literal};
+pub use names::put_name;
+pub use numbers::put_number;
+pub use terms::put_term;

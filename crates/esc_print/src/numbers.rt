@@ -1,0 +1,26 @@
+//! Whole numbers.
+
+ghost use Rattle.std.specs.Prelude.{decimal};
+ghost use Rattle.std.specs.Fmt.{signed_decimal};
+ghost use Rattle.esc_io.specs.Faults.{HasCause};
+ghost use Rattle.esc_io.specs.Putting.{Puts};
+
+use esc_io::{Failed, Sink, put_all};
+use itoa::Buffer;
+
+/// Puts a number in decimal digits.
+pub fn put_number<K: Sink>(value: u64, sink: &mut K) -> Result<(), Failed>
+    ensures bytes { Puts (K.written sink.old) (K.written sink.new) result (decimal value) }
+    ensures cause { HasCause (K.faults sink.old) (K.faults sink.new) result }
+{
+    let mut buffer = Buffer::new();
+    put_all(sink, buffer.format(value).as_bytes())
+}
+
+pub(crate) fn put_numeral<K: Sink>(value: i64, sink: &mut K) -> Result<(), Failed>
+    ensures bytes { Puts (K.written sink.old) (K.written sink.new) result (signed_decimal value) }
+    ensures cause { HasCause (K.faults sink.old) (K.faults sink.new) result }
+{
+    let mut buffer = Buffer::new();
+    put_all(sink, buffer.format(value).as_bytes())
+}
