@@ -1,0 +1,20 @@
+use Rattle.std.proofs.Common.{◌≡◌, ◌+◌, ◌≤◌, ◌^◌, ℕ, List, Option, false, length}
+use Rattle.esc_top.specs.Underway.{Underway}
+use Rattle.esc_top.proofs.input.answer_pieces.Given as goal
+
+abbrev pub invariant-pieces : goal.invariant-pieces
+invariant-pieces g l =
+    let written = g.K.Sink.written in
+    let source = g.S.Source.left in
+    record {
+      told : (left before : Option (List ℕ)) → Underway left (source l.fn.source) before (written l.fn.sink) l.fn.reader l.fn.desk
+          → Underway left (source l.source) before (written l.sink) l.reader l.desk;
+      few : l.desk.goals ≤ l.reader.place;
+      open_end : l.reader.finished ≡ false;
+      room : l.reader.place + length l.reader.bytes + l.room ≡ 2 ^ 32;
+      reads : g.S.Source.faults l.source ≡ g.S.Source.faults l.fn.source;
+      writes : g.K.Sink.faults l.sink ≡ g.K.Sink.faults l.fn.sink;
+    }
+
+abbrev pub decreases-pieces : goal.decreases-pieces
+decreases-pieces g l = l.room

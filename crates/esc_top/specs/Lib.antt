@@ -1,0 +1,8 @@
+pub mod Answers
+pub mod Codes
+pub mod Goals
+pub mod LastLine
+pub mod Ran
+pub mod Reading
+pub mod Told
+pub mod Underway

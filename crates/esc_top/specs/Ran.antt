@@ -1,0 +1,44 @@
+-- What a run reads and writes, and how it ends, where source and sink tell their bytes.
+use Rattle.std.specs.Prelude.{◌≡◌, ◌≢◌, ℕ, Bool, true, false, not, IsTrue, List, [], ◌++◌, codes, Option}
+use Rattle.std.specs.Io.KnownBytes.{IsAtEnd}
+use Rattle.esc_io.specs.Putting.{Grows, GrowsByFront}
+use Rattle.esc_io.specs.Taking.{Takes}
+use Rattle.esc_sexp.specs.declared.sexp.Sexp.{Sexp}
+use Rattle.esc_sexp.specs.Grammar.{Reads, whole, broken}
+use Rattle.esc_top.specs.LastLine.{last_line}
+use Rattle.esc_names.specs.Numbering.{first_names}
+use Rattle.esc_top.specs.Reading.{HasFirst, HasTooMuch, HasWhole}
+use Rattle.esc_top.specs.Told.{Told, AnswersAll, all_valid, texts}
+use Rattle.esc_top.specs.declared.status.Status.{Status}
+use Rattle.esc_top.specs.declared.status.Status.TheVariants.{Proved, Answered, Syntax, ReadFault, WriteFault, Memory, TooMuch}
+
+-- what may follow the bytes that were taken: nothing, where the source has said that they are all
+abbrev pub MayFollow : Bool → List ℕ → Type 0
+MayFollow ended more = IsTrue ended → more ≡ []
+
+-- how far the bytes were read and answered, by the status
+abbrev pub IsReadTo : Status → Bool → List ℕ → List Sexp → List Told → Type 0
+IsReadTo Proved ended taken es told = IsTrue ended × Reads 0 taken es whole × IsTrue (all_valid told)
+IsReadTo Answered ended taken es told = IsTrue ended × Reads 0 taken es whole × IsTrue (not (all_valid told))
+IsReadTo (Syntax fault) ended taken es told = (more : List ℕ) → MayFollow ended more → Reads 0 (taken ++ more) es (broken fault)
+IsReadTo ReadFault ended taken es told = HasWhole taken es
+IsReadTo WriteFault ended taken es told = (more : List ℕ) → MayFollow ended more → HasFirst (taken ++ more) es
+IsReadTo Memory ended taken es told = (more : List ℕ) → MayFollow ended more → HasFirst (taken ++ more) es
+IsReadTo TooMuch ended taken es told = HasTooMuch taken es
+
+-- The bytes that were taken begin with expressions that are answered in order; the texts of the answers and the last
+-- line are written. With a write fault it is a front of what some status, reached before the fault, would have written.
+pub record Ran (left rest written now : Option (List ℕ)) (result : Status) : Type 0 where
+  pub taken : List ℕ
+  pub ended : Bool
+  pub expressions : List Sexp
+  pub told : List Told
+  pub names : List (List ℕ)
+  pub goals : ℕ
+  pub reached : Status
+  pub consumed : Takes left rest taken
+  pub at_end : IsTrue ended → IsAtEnd rest
+  pub answers : AnswersAll first_names 0 expressions told names goals
+  pub read : IsReadTo reached ended taken expressions told
+  pub whole_text : result ≢ WriteFault → (result ≡ reached) × Grows written now (texts told ++ last_line reached)
+  pub front : GrowsByFront written now (texts told ++ last_line reached)

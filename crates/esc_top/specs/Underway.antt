@@ -1,0 +1,129 @@
+-- What stands between the steps of a run.
+use Rattle.std.specs.Prelude.{◌≡◌, ◌≢◌, ℕ, ◌+◌, ◌<◌, ◌≤◌, Bool, true, false, ◌&&◌, if◌then◌else◌, IsTrue, List, [], ◌∷◌, ◌++◌, length, Option, None, Result, Ok, Err}
+use Rattle.std.specs.Io.KnownBytes.{IsAtEnd}
+use Rattle.esc_io.specs.Faults.{Rose}
+use Rattle.esc_io.specs.Putting.{Grows, GrowsByFront, Puts}
+use Rattle.esc_io.specs.Taking.{Takes}
+use Rattle.esc_sexp.specs.declared.sexp.Sexp.{Sexp}
+use Rattle.esc_sexp.specs.declared.sexp.SexpFault.{SexpFault}
+use Rattle.esc_sexp.specs.Grammar.{Finds, FirstFault, IsBlankText}
+use Rattle.esc_sexp.specs.Unread.{ReadsAlike, Unread}
+use Rattle.esc_report.specs.declared.report.Report.{Report}
+use Rattle.esc_report.specs.Text.{report_text}
+use Rattle.esc_top.specs.Answers.{Answers}
+use Rattle.esc_top.specs.Ran.{IsReadTo}
+use Rattle.esc_names.specs.Numbering.{first_names}
+use Rattle.esc_top.specs.Reading.{BeginsAs}
+use Rattle.esc_top.specs.Told.{Told, AnswersAll, Grown, all_valid, is_valid_report, texts}
+use Rattle.esc_top.specs.declared.desk.Desk.{Desk}
+use Rattle.esc_top.specs.declared.input.Feeding.{Feeding}
+use Rattle.esc_top.specs.declared.input.Feeding.TheVariants as feeding
+use Rattle.esc_top.specs.declared.input.Stop.{Stop}
+use Rattle.esc_top.specs.declared.input.Stop.TheVariants as stop
+use Rattle.esc_top.specs.declared.status.Status.{Status}
+use Rattle.esc_top.specs.declared.status.Status.TheVariants.{Proved, Answered, ReadFault, WriteFault}
+
+-- what the reader has before it says nothing against these: an end of the text that it has been told
+abbrev pub Agrees : Bool → Bool → List ℕ → Type 0
+Agrees told finished more = told ≡ true → (finished ≡ true) × (more ≡ [])
+
+-- Behind these expressions of the bytes that were taken stands what reads like what the reader has before it, whatever
+-- follows.
+abbrev pub GoesOnBehind : List ℕ → List Sexp → Unread → Type 0
+GoesOnBehind taken es unread = (finished : Bool) (more : List ℕ) → Agrees unread.finished finished more
+    → (after : ℕ) × (stand : List ℕ) × BeginsAs finished 0 (taken ++ more) es after stand × ReadsAlike finished after stand unread.place (unread.bytes ++ more)
+
+-- the expressions so far are answered and the texts of the answers are written
+pub record Underway (left rest written now : Option (List ℕ)) (unread : Unread) (desk : Desk) : Type 0 where
+  pub taken : List ℕ
+  pub expressions : List Sexp
+  pub told : List Told
+  pub consumed : Takes left rest taken
+  pub at_end : unread.finished ≡ true → IsAtEnd rest
+  pub untold : unread.fault ≡ None
+  pub behind : GoesOnBehind taken expressions unread
+  pub reached : unread.place + length unread.bytes ≡ length taken
+  pub answers : AnswersAll first_names 0 expressions told desk.names desk.goals
+  pub clean : desk.all_valid ≡ all_valid told
+  pub grown : Grows written now (texts told)
+
+-- the reader has no further whole expression before it and no fault, and nothing but blanks where the bytes are all
+pub record IsHungry (unread : Unread) : Type 0 where
+  pub no_further : (e : Sexp) (after : ℕ) (rest : List ℕ) → Finds unread.finished unread.place unread.bytes e after rest → ⊥
+  pub no_fault : (f : SexpFault) → FirstFault unread.finished unread.place unread.bytes f → ⊥
+  pub blank : unread.finished ≡ true → IsBlankText unread.bytes
+
+-- a status is reached, and all but the last line is written
+pub record Reached (left rest written now : Option (List ℕ)) (status : Status) : Type 0 where
+  pub taken : List ℕ
+  pub ended : Bool
+  pub expressions : List Sexp
+  pub told : List Told
+  pub names : List (List ℕ)
+  pub goals : ℕ
+  pub consumed : Takes left rest taken
+  pub at_end : IsTrue ended → IsAtEnd rest
+  pub answers : AnswersAll first_names 0 expressions told names goals
+  pub read : IsReadTo status ended taken expressions told
+  pub no_write_fault : status ≢ WriteFault
+  pub grown : Grows written now (texts told)
+
+-- a write failed: a front of the texts is written
+pub record Broken (left rest written now : Option (List ℕ)) : Type 0 where
+  pub taken : List ℕ
+  pub ended : Bool
+  pub expressions : List Sexp
+  pub told : List Told
+  pub names : List (List ℕ)
+  pub goals : ℕ
+  pub consumed : Takes left rest taken
+  pub at_end : IsTrue ended → IsAtEnd rest
+  pub answers : AnswersAll first_names 0 expressions told names goals
+  pub read : IsReadTo WriteFault ended taken expressions told
+  pub front : GrowsByFront written now (texts told)
+
+abbrev pub Came : {E : Type 0} → Option (List ℕ) → Option (List ℕ) → Option (List ℕ) → Option (List ℕ) → Result Status E → Type 0
+Came left rest written now (Ok status) = Reached left rest written now status
+Came left rest written now (Err e) = Broken left rest written now
+
+-- what answering the whole expressions comes to
+abbrev pub Stops : {E : Type 0} → Option (List ℕ) → Option (List ℕ) → Option (List ℕ) → Option (List ℕ) → Unread → Desk → Result Stop E → Type 0
+Stops left rest written now unread desk (Ok stop.Hungry) = Underway left rest written now unread desk × IsHungry unread
+Stops left rest written now unread desk (Ok (stop.Ended status)) = Reached left rest written now status
+Stops left rest written now unread desk (Err e) = Broken left rest written now
+
+-- one expression is answered, and the text of the answer is written or a front of it
+pub record AnswersOne {E : Type 0} (old new : Desk) (e : Sexp) (written now : Option (List ℕ)) (result : Result (Unit {0}) E) : Type 0 where
+  pub report : Report
+  pub names : Grown old.names new.names
+  pub answers : Answers new.names old.goals e report new.goals
+  pub clean : new.all_valid ≡ (old.all_valid && is_valid_report report)
+  pub few : new.goals ≤ old.goals + 1
+  pub put : Puts written now result (report_text new.names report)
+
+-- what a piece that is read brings, where so many bytes more may be read
+abbrev pub Feeds : Option (List ℕ) → Option (List ℕ) → Unread → Unread → ℕ → Feeding → Type 0
+Feeds left rest old new room (feeding.Fed count) =
+    (bytes : List ℕ) × Takes left rest bytes × (length bytes ≡ count) × (0 < count) × (count ≤ room) × (new ≡ record old { bytes = old.bytes ++ bytes })
+Feeds left rest old new room feeding.AtEnd = Takes left rest [] × IsAtEnd rest × (new ≡ old)
+Feeds left rest old new room feeding.ReadFault = Takes left rest [] × (new ≡ old)
+Feeds left rest old new room feeding.TooMuch = (byte : ℕ) × Takes left rest (byte ∷ []) × (room ≡ 0) × (new ≡ old)
+Feeds left rest old new room feeding.Memory = (bytes : List ℕ) × Takes left rest bytes × (new ≡ old)
+
+-- the source's count of faults stands, and rises where a read failed
+abbrev pub IsToldByCount : Feeding → ℕ → ℕ → Type 0
+IsToldByCount feeding.ReadFault before now = Rose before now
+IsToldByCount told before now = now ≡ before
+
+abbrev pub EndsByCount : {E : Type 0} → Result Status E → ℕ → ℕ → Type 0
+EndsByCount (Ok ReadFault) before now = Rose before now
+EndsByCount result before now = now ≡ before
+
+abbrev pub StopsByCount : {E : Type 0} → Result Stop E → ℕ → ℕ → Type 0
+StopsByCount (Ok (stop.Ended status)) before now = EndsByCount {E = Unit {0}} (Ok status) before now
+StopsByCount result before now = now ≡ before
+
+-- the status of a run that stopped so: at the end of the input it tells whether all is valid
+abbrev pub status_at : Stop → Bool → Status
+status_at (stop.Ended status) all_valid = status
+status_at stop.Hungry all_valid = if all_valid then Proved else Answered

@@ -1,0 +1,112 @@
+//! How a run ends.
+
+ghost use Rattle.std.specs.Prelude.{◌≡◌, ◌++◌};
+ghost use Rattle.esc_io.specs.Faults.{HasCause};
+ghost use Rattle.esc_io.specs.Putting.{Puts};
+ghost use Rattle.esc_top.specs.Codes.{code_of};
+ghost use Rattle.esc_top.specs.LastLine.{fault_line, fault_opening, kind_line, kind_text, last_line};
+
+use esc_io::{Failed, Sink, put_all};
+use esc_sexp::{SexpFault, SexpKind};
+use itoa::Buffer;
+
+/// How a run ended.
+#[derive(Clone, Copy, Debug, PartialEq, Eq)]
+pub enum Status {
+    /// The input was read to its end, and each report says that a goal is valid.
+    Proved,
+    /// The input was read to its end, and some report says otherwise.
+    Answered,
+    /// The input has this fault.
+    Syntax(SexpFault),
+    /// The source failed.
+    ReadFault,
+    /// The sink failed.
+    WriteFault,
+    /// Want of memory outside a command.
+    Memory,
+    /// The input is longer than may be read.
+    TooMuch,
+}
+
+impl Status {
+    /// The code that a program ends with.
+    pub fn code(&self) -> u8
+        ensures { result ≡ code_of self.now }
+    {
+        match self {
+            Status::Proved => 0,
+            Status::Answered => 1,
+            Status::Syntax(_) => 3,
+            Status::ReadFault => 4,
+            Status::WriteFault => 5,
+            Status::Memory => 6,
+            Status::TooMuch => 7,
+        }
+    }
+}
+
+fn kind_text(kind: SexpKind) -> &'static [u8]
+    ensures { result.now ≡ kind_text kind }
+{
+    match kind {
+        SexpKind::Unclosed => b"unclosed parenthesis",
+        SexpKind::StrayClose => b"stray closing parenthesis",
+        SexpKind::BadByte => b"bad byte",
+        SexpKind::OpenBar => b"unclosed bar",
+        SexpKind::TooDeep => b"nesting too deep",
+        SexpKind::TooLong => b"command too long",
+    }
+}
+
+#[tactic(auto, unfolding(crate::specs::LastLine::fault_opening))]
+fn fault_opening() -> &'static [u8]
+    ensures { result.now ≡ fault_opening }
+{
+    b"Syntax fault at byte "
+}
+
+// Three texts in order.
+#[tactic(auto, using(esc_io::proofs::PuttingLemmas::putting))]
+fn put_three<K: Sink>(first: &[u8], second: &[u8], third: &[u8], sink: &mut K) -> Result<(), Failed>
+    ensures bytes { Puts (K.written sink.old) (K.written sink.new) result (first.now ++ (second.now ++ third.now)) }
+    ensures cause { HasCause (K.faults sink.old) (K.faults sink.new) result }
+{
+    put_all(sink, first)?;
+    put_all(sink, second)?;
+    put_all(sink, third)
+}
+
+// What is wrong, behind its place.
+#[tactic(auto, unfolding(crate::specs::LastLine::kind_line))]
+fn put_kind<K: Sink>(kind: SexpKind, sink: &mut K) -> Result<(), Failed>
+    ensures bytes { Puts (K.written sink.old) (K.written sink.new) result (kind_line kind) }
+    ensures cause { HasCause (K.faults sink.old) (K.faults sink.new) result }
+{
+    put_three(b": ", kind_text(kind), b".\n", sink)
+}
+
+#[tactic(auto, using(esc_io::proofs::PuttingLemmas::putting))]
+fn put_fault<K: Sink>(fault: SexpFault, sink: &mut K) -> Result<(), Failed>
+    ensures bytes { Puts (K.written sink.old) (K.written sink.new) result (fault_line fault) }
+    ensures cause { HasCause (K.faults sink.old) (K.faults sink.new) result }
+{
+    let mut buffer = Buffer::new();
+    put_all(sink, fault_opening())?;
+    put_all(sink, buffer.format(fault.place).as_bytes())?;
+    put_kind(fault.kind, sink)
+}
+
+/// Writes the last line.
+pub fn put_last_line<K: Sink>(status: Status, sink: &mut K) -> Result<(), Failed>
+    ensures bytes { Puts (K.written sink.old) (K.written sink.new) result (last_line status) }
+    ensures cause { HasCause (K.faults sink.old) (K.faults sink.new) result }
+{
+    match status {
+        Status::Proved | Status::Answered | Status::WriteFault => put_all(sink, b""),
+        Status::Syntax(fault) => put_fault(fault, sink),
+        Status::ReadFault => put_all(sink, b"Read fault.\n"),
+        Status::Memory => put_all(sink, b"Out of memory.\n"),
+        Status::TooMuch => put_all(sink, b"Input too long.\n"),
+    }
+}

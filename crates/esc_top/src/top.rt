@@ -1,0 +1,49 @@
+//! The call that does all that the program does.
+
+ghost use Rattle.std.specs.Prelude.{◌≡◌, ◌≢◌};
+ghost use Rattle.esc_io.specs.Faults.{HasCause, Rose};
+ghost use Rattle.esc_io.specs.Putting.{Puts};
+ghost use Rattle.esc_top.specs.LastLine.{last_line};
+ghost use Rattle.esc_top.specs.Ran.{Ran};
+
+use crate::input::answer_input;
+use crate::status::{Status, put_last_line};
+use esc_io::{Failed, Sink, Source};
+use std::alloc::Global;
+
+// Writes the last line and sees that it goes on its way.
+fn finish<K: Sink>(status: Status, sink: &mut K) -> Result<(), Failed>
+    ensures bytes { Puts (K.written sink.old) (K.written sink.new) result (last_line status) }
+    ensures cause { HasCause (K.faults sink.old) (K.faults sink.new) result }
+{
+    put_last_line(status, sink)?;
+    sink.flush()
+}
+
+/// Reads commands from the source up to its end, and writes the answer to each to the sink before more is read. The
+/// words are those of the command line, of which the first is the program's name.
+///
+/// Where source or sink do not tell their bytes, only what is said of their faults holds of them.
+pub fn run<S: Source, K: Sink>(
+    alloc: Global,
+    _words: &[String],
+    source: &mut S,
+    sink: &mut K,
+) -> Status
+    // Each goal is answered in order.
+    ensures ran { Ran (S.left source.old) (S.left source.new) (K.written sink.old) (K.written sink.new) result }
+
+    // A fault is told only where source or sink had one, and each of theirs is told.
+    ensures reads { result ≡ Status.ReadFault → Rose (S.faults source.old) (S.faults source.new) }
+    ensures no_read_fault { result ≢ Status.ReadFault → result ≢ Status.WriteFault → S.faults source.new ≡ S.faults source.old }
+    ensures writes { result ≡ Status.WriteFault → Rose (K.faults sink.old) (K.faults sink.new) }
+    ensures no_write_fault { result ≢ Status.WriteFault → K.faults sink.new ≡ K.faults sink.old }
+{
+    let Ok(status) = answer_input(alloc, source, sink) else {
+        return Status::WriteFault;
+    };
+    match finish(status, sink) {
+        Ok(()) => status,
+        Err(Failed) => Status::WriteFault,
+    }
+}

@@ -1,0 +1,5 @@
+//! Whole runs over memory.
+#![tactic(auto)]
+
+#[cfg(test)]
+mod tests;
