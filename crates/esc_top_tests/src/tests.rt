@@ -5,6 +5,7 @@ use std::alloc::Global;
 use std::test::Fail;
 
 /// A run over memory: what is read in pieces of so many bytes, and which reads and writes fail.
+#[derive(Drop)]
 struct Case<'a> {
     input: &'a [u8],
     piece: usize,

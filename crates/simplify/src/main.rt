@@ -2,6 +2,7 @@
 #![tactic(auto)]
 
 use esc_io::{StdSink, StdSource};
+use std::env::Env;
 use std::process::ExitCode;
 use std::{env, io};
 
