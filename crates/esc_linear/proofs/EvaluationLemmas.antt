@@ -1,5 +1,5 @@
 -- The forms of several terms, one after another, and the answer for each form of term.
-use Rattle.std.proofs.Common.{◌≡◌, ℕ, ℤ, Bool, true, false, cond, List, [], ◌∷◌, ◌++◌, map, length, append_assoc, append-nil, Result, Ok, refl, sym, ap, subst, subst₂, ◌∙◌}
+use Rattle.std.proofs.Common.{◌≡◌, ℕ, ℤ, Bool, true, false, cond, List, [], ◌∷◌, ◌++◌, map, length, append_assoc, append-nil, Result, Ok, Err, IfOk, refl, sym, ap, subst, subst₂, ◌∙◌}
 use Rattle.std.specs.List.{flat_map, fold}
 use Rattle.std.proofs.lemmas.List.{length-map}
 use Rattle.std.proofs.lemmas.List.Elements.{All-nil}
@@ -11,6 +11,7 @@ use Rattle.esc_frac.specs.Rational.{whole}
 use Rattle.esc_linear.specs.declared.form.Form.{Form}
 use Rattle.esc_linear.specs.declared.form.FormJam.{FormJam}
 use Rattle.esc_linear.specs.Forms.{constant_form, opaque_form, applied, form}
+use Rattle.esc_linear.specs.Laws.{IsLin}
 use Rattle.esc_linear.specs.Steps.{Step, StepFits, AllFit, fold_steps, looks_into, combined_steps, steps, Answers}
 use Rattle.esc_linear.proofs.FormLevels.{form-Num, form-Var, form-App, steps-Num, steps-Var, steps-App}
 use Rattle.esc_linear.proofs.StepLemmas.{goes_on}
@@ -86,3 +87,9 @@ unfolding Answers
 all_combined r t head args fs b is e yes_it_does inside h =
     looked_into r t head args b is e yes_it_does
     (goes_on r (flat_map steps args) _ _ inside.0 (subst (λ gs. Answers r (combined_steps head gs) (applied head (opaque_form t) gs)) inside.1 h))
+
+-- an answer is the linear meaning
+pub linear_answer : (r : Result Form FormJam) (t : Term) → Answers r (steps t) (form t) → IsLin t (form t) → IfOk r (IsLin t)
+unfolding Answers
+linear_answer (Ok f) t answered l = subst (IsLin t) (sym answered.1) l
+linear_answer (Err e) t answered l = tt

@@ -1,11 +1,9 @@
 -- The value of sums, negatives and multiples of forms, and that they are normal.
-use Rattle.std.proofs.Common.{◌≡◌, List, [], ◌∷◌, refl, sym, ap, ap₂, ◌∙◌}
-use Rattle.std.specs.List.{fold}
-use Rattle.esc_term.specs.declared.term.Term.{Term}
-use Rattle.esc_frac.specs.Rational.{ℚ, zero_ℚ, one_ℚ, ◌+ℚ◌, neg_ℚ, ◌*ℚ◌}
-use Rattle.esc_frac.proofs.FieldLaws.{+ℚ-zero, zero-+ℚ, +ℚ_interchange, neg_ℚ-+ℚ, +ℚ-*ℚ, *ℚ-one, *ℚ_comm}
+use Rattle.std.proofs.Common.{◌≡◌, sym, ap, ◌∙◌}
+use Rattle.esc_frac.specs.Rational.{ℚ, ◌+ℚ◌, neg_ℚ, ◌*ℚ◌}
+use Rattle.esc_frac.proofs.FieldLaws.{+ℚ_interchange, neg_ℚ-+ℚ, +ℚ-*ℚ}
 use Rattle.esc_linear.specs.declared.form.Form.{Form}
-use Rattle.esc_linear.specs.Forms.{plus, negative, scaled, constant_form, opaque_form}
+use Rattle.esc_linear.specs.Forms.{plus, negative, scaled}
 use Rattle.esc_linear.specs.Laws.{Assignment, weighted, value, IsNormal}
 use Rattle.esc_linear.proofs.PartLemmas.{weighted-with_parts, weighted-negative, weighted-scaled_parts, AllNonzero-with_parts, AllNonzero-scaled_parts, Apart-with_parts, Apart-scaled_parts}
 

@@ -1,5 +1,5 @@
 -- The parts of a form, when a multiple of one term is added: their value, and what holds of each.
-use Rattle.std.proofs.Common.{◌≡◌, ◌≢◌, Bool, true, false, cond, List, [], ◌∷◌, map, pos, refl, sym, ap, ap₂, ◌∙◌, subst, arith}
+use Rattle.std.proofs.Common.{◌≡◌, ◌≢◌, Bool, true, false, cond, List, [], ◌∷◌, map, pos, refl, sym, ap, ap₂, ◌∙◌, subst}
 use Rattle.std.specs.List.{All}
 use Rattle.std.proofs.lemmas.Bool.Decides.{Decides-int_eq, not_from_Decides}
 use Rattle.std.proofs.lemmas.List.Elements.{All-nil, All-cons, All-head, All-tail, All-map}
@@ -7,7 +7,7 @@ use Rattle.esc_term.specs.declared.term.Term.{Term}
 use Rattle.esc_term.specs.Equal.{same_term, same_term-is}
 use Rattle.esc_frac.specs.Rational.{ℚ, zero_ℚ, is_zero, ◌+ℚ◌, neg_ℚ, ◌*ℚ◌}
 use Rattle.esc_frac.specs.RationalLaws.{zero_from_num}
-use Rattle.esc_frac.proofs.FieldLaws.{+ℚ_comm, +ℚ_assoc, +ℚ-zero, zero-+ℚ, +ℚ_right_comm, +ℚ_interchange, neg_ℚ-zero, neg_ℚ-+ℚ, neg_ℚ-*ℚ, +ℚ-*ℚ, zero-*ℚ, *ℚ_right_comm}
+use Rattle.esc_frac.proofs.FieldLaws.{+ℚ_comm, +ℚ_assoc, +ℚ-zero, zero-+ℚ, +ℚ_right_comm, neg_ℚ-zero, neg_ℚ-+ℚ, neg_ℚ-*ℚ, +ℚ-*ℚ, zero-*ℚ, *ℚ_right_comm}
 use Rattle.esc_linear.specs.declared.form.Part.{Part}
 use Rattle.esc_linear.specs.Forms.{part, with_factor, with_part, with_parts, scaled_parts}
 use Rattle.esc_linear.specs.Laws.{Assignment, weighted, Apart}

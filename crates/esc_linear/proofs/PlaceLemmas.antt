@@ -1,9 +1,9 @@
 -- What the parts become when a multiple of a term is added, by the place of the term.
-use Rattle.std.proofs.Common.{◌≡◌, ◌≢◌, ℕ, zero, suc, ◌<◌, Bool, true, false, cond, List, [], ◌∷◌, ◌++◌, take, length, get_or, set, append-nil, refl, sym, ap, ap₂, ◌∙◌, subst, arith}
-use Rattle.std.specs.List.{All, remove}
+use Rattle.std.proofs.Common.{◌≡◌, ◌≢◌, ℕ, zero, suc, true, false, cond, List, [], ◌∷◌, ◌++◌, take, get_or, set, append-nil, refl, sym, ap, ap₂, ◌∙◌, subst, arith}
+use Rattle.std.specs.List.{remove}
 use Rattle.std.proofs.lemmas.List.Elements.{All-nil, All-head, All-tail}
 use Rattle.esc_term.specs.declared.term.Term.{Term}
-use Rattle.esc_term.specs.Equal.{same_term, same_term-is}
+use Rattle.esc_term.specs.Equal.{same_term-is}
 use Rattle.esc_frac.specs.Fits.{SumFits}
 use Rattle.esc_frac.specs.Rational.{ℚ, is_zero, ◌+ℚ◌}
 use Rattle.esc_linear.specs.declared.form.Part.{Part}

@@ -1,5 +1,5 @@
 -- Linear forms in numbers of any size: sums, differences and products of forms, and the form of a term. The terms of a form stand in the order of their first occurrence, and those with coefficient 0 are dropped.
-use Rattle.std.specs.Prelude.{ℕ, Bool, true, false, not, nat_lt, if◌then◌else◌, List, [], ◌∷◌, map, length}
+use Rattle.std.specs.Prelude.{Bool, true, false, not, nat_lt, if◌then◌else◌, List, [], ◌∷◌, map, length}
 use Rattle.std.specs.List.{filter, fold}
 use Rattle.esc_term.specs.declared.term.Head.{Head}
 use Rattle.esc_term.specs.declared.term.Head.TheVariants.{Add, Sub, Mul}

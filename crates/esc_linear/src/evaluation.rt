@@ -1,10 +1,11 @@
 //! The form of a term.
 
-ghost use Rattle.std.specs.Prelude.{◌≡◌, [], map};
+ghost use Rattle.std.specs.Prelude.{◌≡◌, [], map, IfOk};
 ghost use Rattle.std.specs.List.{flat_map};
 ghost use Rattle.esc_term.specs.declared.term.Head.TheVariants.{Sub};
 ghost use Rattle.esc_frac.specs.Rational.{whole};
 ghost use Rattle.esc_linear.specs.Forms.{applied, constant_form, form as form_by_rules, opaque_form};
+ghost use Rattle.esc_linear.specs.Laws.{IsLin};
 ghost use Rattle.esc_linear.specs.Steps.{Answers, combined_steps, looks_into as is_looked_into, steps};
 
 use crate::form::{Form, FormJam};
@@ -23,7 +24,8 @@ type Forms = Items<Form>;
 /// more than one such form is opaque, as is any other term: it stands in its form with coefficient
 /// 1. `Spill` exactly where a step of this is out of range.
 pub fn form_of(alloc: Global, term: &Term) -> Result<Form, FormJam>
-    ensures { Answers result (steps term.now) (form_by_rules term.now) }
+    ensures exact { Answers result (steps term.now) (form_by_rules term.now) }
+    ensures linear { IfOk result (IsLin term.now) }
 {
     evaluated(alloc, term)
 }

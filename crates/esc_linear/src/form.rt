@@ -61,6 +61,7 @@ impl Copied for Part {
 }
 
 impl Form {
+    /// A copy, where there is memory for it.
     pub fn copy(&self, alloc: Global) -> Result<Form, AllocError>
         ensures { IfOk result (λ c. c ≡ self.now) }
     {

@@ -9,7 +9,7 @@ mod sum;
 
 pub use evaluation::form_of;
 pub use form::{Form, FormJam, Part, Parts};
-pub use laws::minus_laws;
+pub use laws::{form_laws, minus_laws};
 pub use sum::minus;
 
 #[cfg(test)]

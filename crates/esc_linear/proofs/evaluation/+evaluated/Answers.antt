@@ -1,6 +1,5 @@
-use Rattle.std.proofs.Common.{List, [], map, Ok, subst, subst₂, arith, ap, sym, ◌∙◌}
+use Rattle.std.proofs.Common.{[], map, Ok, subst, subst₂, arith, ap, ◌∙◌}
 use Rattle.std.specs.List.{flat_map}
-use Rattle.esc_term.specs.declared.term.Term.{Term}
 use Rattle.esc_linear.specs.Forms.{opaque_form, applied, form}
 use Rattle.esc_linear.specs.Steps.{looks_into, combined_steps, steps, Answers}
 use Rattle.esc_linear.proofs.EvaluationLemmas.{with_form, own_steps, forms-folded, steps-folded, pushed, numeral, variable, not_looked_into, looked_into, all_combined}

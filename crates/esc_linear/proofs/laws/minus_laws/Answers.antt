@@ -1,5 +1,5 @@
 use Rattle.std.proofs.Common.{ap, ◌∙◌}
-use Rattle.esc_frac.specs.Rational.{◌+ℚ◌, neg_ℚ}
+use Rattle.esc_frac.specs.Rational.{◌+ℚ◌}
 use Rattle.esc_linear.proofs.FormLemmas.{value-plus, value-negative, IsNormal-plus}
 use Rattle.esc_linear.specs.Forms.{negative}
 use Rattle.esc_linear.specs.Laws.{value}

@@ -1,4 +1,4 @@
-use Rattle.std.proofs.Common.{length, ap, sym, ◌∙◌, arith}
+use Rattle.std.proofs.Common.{length, ap, ◌∙◌, arith}
 use Rattle.esc_linear.proofs.ProductLemmas.{constant_by, varying-constant, varying-other, varying-none}
 use Rattle.esc_linear.proofs.product.count_varying.Goals as goal
 use Rattle.esc_linear.proofs.product.count_varying.Goals.{then-not-is_constant, else-not-is_constant}

@@ -1,4 +1,4 @@
-use Rattle.std.proofs.Common.{arith, ap, ◌∙◌}
+use Rattle.std.proofs.Common.{arith, ◌∙◌}
 use Rattle.esc_linear.specs.Steps.{factor_steps}
 use Rattle.esc_linear.proofs.ProductLemmas.{constant_by, varying-constant, varying-other, varying-none, product_of_one, product_of_none}
 use Rattle.esc_linear.proofs.StepLemmas.{handed_on}

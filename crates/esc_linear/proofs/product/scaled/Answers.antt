@@ -1,7 +1,6 @@
-use Rattle.std.proofs.Common.{List, ◌++◌, ◌∷◌, [], subst, ap, ap₂, sym, ◌∙◌}
+use Rattle.std.proofs.Common.{List, [], subst, ap₂}
 use Rattle.std.proofs.lemmas.List.Elements.{All-head, All-append}
-use Rattle.esc_frac.specs.Rational.{ℚ, ◌*ℚ◌}
-use Rattle.esc_linear.specs.declared.form.Form.{Form}
+use Rattle.esc_frac.specs.Rational.{ℚ}
 use Rattle.esc_linear.specs.declared.form.Part.{Part}
 use Rattle.esc_linear.specs.Forms.{scaled_parts}
 use Rattle.esc_linear.specs.Steps.{multiplies, StepFits, Answers, scaled_part_steps}

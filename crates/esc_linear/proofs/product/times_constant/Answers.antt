@@ -1,4 +1,4 @@
-use Rattle.std.proofs.Common.{[], ◌∷◌, Ok}
+use Rattle.std.proofs.Common.{[], Ok}
 use Rattle.std.proofs.lemmas.List.Elements.{All-head}
 use Rattle.esc_linear.specs.Steps.{multiplies, StepFits, Answers}
 use Rattle.esc_linear.proofs.ProductLemmas.{constant_by, no_constant, a_constant}

@@ -1,4 +1,4 @@
-use Rattle.std.proofs.Common.{◌≡◌, List, get_or, set, sym, ap, ◌∙◌}
+use Rattle.std.proofs.Common.{List, get_or, set, sym, ap, ◌∙◌}
 use Rattle.esc_frac.specs.Rational.{is_zero}
 use Rattle.esc_linear.specs.declared.form.Part.{Part}
 use Rattle.esc_linear.specs.Forms.{part}

@@ -1,6 +1,6 @@
-use Rattle.std.proofs.Common.{◌≡◌, sym, ◌∙◌}
+use Rattle.std.proofs.Common.{sym, ◌∙◌}
 use Rattle.esc_linear.specs.Steps.{Answers}
-use Rattle.esc_linear.proofs.PlaceLemmas.{part_steps-nowhere, none_added, one_added, no_steps}
+use Rattle.esc_linear.proofs.PlaceLemmas.{none_added, one_added, no_steps}
 use Rattle.esc_linear.proofs.sum.add_at_end.Goals as goal
 
 pub returns-then-is_zero : goal.returns-then-is_zero
