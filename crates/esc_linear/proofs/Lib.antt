@@ -1,0 +1,14 @@
+pub mod Additive
+pub mod AllLemmas
+pub mod EvaluationLemmas
+pub mod FoldLemmas
+pub mod FormLemmas
+pub mod FormLevels
+pub mod LinLaw
+pub mod LinLevels
+pub mod PartLemmas
+pub mod PlaceLemmas
+pub mod ProductLaw
+pub mod ProductLemmas
+pub mod StepLemmas
+pub mod ValueLaw
