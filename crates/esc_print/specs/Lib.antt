@@ -1,3 +1,4 @@
 pub mod Formulas
+pub mod Fractions
 pub mod Names
 pub mod Terms
