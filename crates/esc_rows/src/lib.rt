@@ -6,6 +6,8 @@ mod eliminating;
 mod pivoting;
 mod solving;
 mod steps;
+mod widening;
 
 pub use pivoting::{try_pivot, write_pivot};
 pub use steps::{add_multiple, is_zero, step};
+pub use widening::{reserve_entries, widen};

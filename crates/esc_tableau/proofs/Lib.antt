@@ -1,0 +1,13 @@
+pub mod Counting
+pub mod PivotLaws
+pub mod Pivoted
+pub mod Places
+pub mod SampleLaws
+pub mod Tables
+pub mod Orders
+pub mod RuleLaws
+pub mod MoveLaws
+pub mod PeakLaws
+pub mod Signs
+pub mod BoundLaws
+pub mod RunLaws

@@ -1,0 +1,15 @@
+//! Linear equations over fractions in solved form, with restrictions, and the maximising of an
+//! unknown within them.
+#![tactic(auto)]
+
+mod answers;
+mod grid;
+mod maximising;
+mod owner;
+mod rule;
+mod tableau;
+mod unknown;
+
+pub use answers::{Jam, Peak, RowStop, Step};
+pub use tableau::Tableau;
+pub use unknown::Unknown;
