@@ -1,6 +1,6 @@
 -- The entries of a row that another's multiple is added to.
 use Rattle.std.proofs.Common.{◌≡◌, ◌≢◌, ℕ, zero, suc, ◌+◌, ◌<◌, ◌≤◌, List, [], ◌∷◌, map, length, set, get_or, refl, sym, ap, ◌∙◌, subst, arith, below_more, get_or-set_other, get_or-set_same, length-set, true≢false, Result, Ok, Err, IsOk, IsErr, Vec, take, drop, ◌++◌, pos, ap₂}
-use Rattle.std.proofs.lemmas.List.{ext_get_or, length-map, set-get_or}
+use Rattle.std.proofs.lemmas.List.{ext_get_or, length-map, get_or-map, map-set, set-get_or}
 use Rattle.std.proofs.Math.Seq.{take-append_seam}
 use Rattle.std.specs.Vec.{with_items}
 use Rattle.esc_frac.specs.Rational.{ℚ, zero_ℚ, ◌+ℚ◌, ◌*ℚ◌, neg_ℚ, inverse_ℚ, ◌/ℚ◌}
@@ -121,3 +121,14 @@ SummedBelow_past ess c n old ks kept p here h = record {
   done = below_more _ _ h.done (λ ne. absurd (ne here));
   left = λ i above. h.left i (omega arith);
 }
+
+-- an element is replaced by one that f sees as the same
+pub map-set_same : {A B : Type 0} (f : A → B) (xs : List A) (i : ℕ) (y d : A) → f y ≡ f (get_or xs i d) → map f (set xs i y) ≡ map f xs
+map-set_same f xs i y d e =
+    map-set f xs i y ∙ ap (set (map f xs) i) e ∙ sym (map-set f xs i (get_or xs i d)) ∙ ap (map f) (set-get_or xs i d)
+
+-- where every row is rewritten, the rows are those of f
+pub rewritten_all : (f : List ℚ → List ℚ) (old rows : List (List ℚ)) (kept p : ℕ) → length rows ≡ length old → length old ≤ kept → length old ≤ p → RewrittenBelow f old rows kept p → rows ≡ map f old
+rewritten_all f old rows kept p l past whole h =
+    ext_get_or [] rows (map f old) (l ∙ sym (length-map old f))
+    (λ i inside. h.done i (omega (arith, l)) (omega (arith, l)) ∙ sym (get_or-map f old i [] [] (omega (arith, l))))

@@ -1,8 +1,10 @@
 -- How many elements pass a test, and where they stand.
-use Rattle.std.proofs.Common.{◌≡◌, ◌⊎◌, inl, inr, ℕ, zero, suc, ◌+◌, ◌<◌, ◌≤◌, Bool, true, false, not, cond, true≢false, List, [], ◌∷◌, length, set, get_or, refl, sym, ap, ◌∙◌, subst, arith}
-use Rattle.std.specs.List.{count_by, position_or_len}
+use Rattle.std.proofs.Common.{◌≡◌, ◌⊎◌, inl, inr, ℕ, zero, suc, ◌+◌, ◌<◌, ◌≤◌, Bool, true, false, not, cond, true≢false, List, [], ◌∷◌, ◌++◌, length, set, get_or, refl, sym, ap, ◌∙◌, subst, arith}
+use Rattle.std.specs.List.{count_by, position_or_len, remove}
+use Rattle.std.proofs.lemmas.List.{get_or_default, set_past}
+use Rattle.std.proofs.lemmas.List.Sorted.{IsPermutation-remove, sum_by_popped}
 use Rattle.std.proofs.lemmas.Bool.{cases_Bool, cases_lt, cond-true, cond-false, false_from_ne_true, not-false}
-use Rattle.std.proofs.lemmas.List.Sums.{sum_by-cons, sum_by-set, position_or_len_is, fails_before_first, prefix_len_stops}
+use Rattle.std.proofs.lemmas.List.Sums.{sum_by-cons, sum_by-set, sum_by_push, position_or_len_is, fails_before_first, prefix_len_stops}
 
 -- 1 where the test holds
 abbrev pub mark : Bool → ℕ
@@ -11,7 +13,7 @@ mark b = cond b 1 0
 pub count_by-set : {X : Type 0} (p : X → Bool) (xs : List X) (i : ℕ) (y d : X) → i < length xs → count_by p (set xs i y) + mark (p (get_or xs i d)) ≡ count_by p xs + mark (p y)
 count_by-set p xs i y d h = sum_by-set (λ x. cond (p x) 1 0) xs i y d h
 
-count_by-cons : {X : Type 0} (p : X → Bool) (x : X) (xs : List X) → count_by p (x ∷ xs) ≡ mark (p x) + count_by p xs
+pub count_by-cons : {X : Type 0} (p : X → Bool) (x : X) (xs : List X) → count_by p (x ∷ xs) ≡ mark (p x) + count_by p xs
 count_by-cons p x xs = sum_by-cons (λ y. cond (p y) 1 0) x xs
 
 pub count_at : {X : Type 0} (p : X → Bool) (xs : List X) (i : ℕ) (d : X) → i < length xs → p (get_or xs i d) ≡ true → 0 < count_by p xs
@@ -75,3 +77,17 @@ has_place p xs d some =
 pub mark_few : (b : Bool) → mark b ≤ 1
 mark_few true = omega arith
 mark_few false = omega arith
+
+pub count_by-push : {X : Type 0} (p : X → Bool) (xs : List X) (y : X) → count_by p (xs ++ y ∷ []) ≡ count_by p xs + mark (p y)
+count_by-push p xs y = sum_by_push (λ x. cond (p x) 1 0) xs y
+
+pub count_by-remove : {X : Type 0} (p : X → Bool) (xs : List X) (i : ℕ) (d : X) → i < length xs → count_by p (remove xs i) + mark (p (get_or xs i d)) ≡ count_by p xs
+count_by-remove p xs i d inside = sum_by_popped (λ x. cond (p x) 1 0) (get_or xs i d) xs (remove xs i) (IsPermutation-remove xs i (get_or xs i d) inside (get_or_default xs i d (get_or xs i d) inside))
+
+-- a place that passes as before changes no count
+pub count_by-set_same : {X : Type 0} (p : X → Bool) (xs : List X) (i : ℕ) (y d : X) → (i < length xs → p y ≡ p (get_or xs i d)) → count_by p (set xs i y) ≡ count_by p xs
+count_by-set_same p xs i y d same = go (cases_lt i (length xs))
+  where
+    go : (i < length xs) ⊎ (length xs ≤ i) → count_by p (set xs i y) ≡ count_by p xs
+    go (inl h) = let e = ap mark (same h) in omega (arith, count_by-set p xs i y d h)
+    go (inr h) = ap (count_by p) (set_past xs i y h)

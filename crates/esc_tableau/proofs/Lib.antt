@@ -11,3 +11,8 @@ pub mod PeakLaws
 pub mod Signs
 pub mod BoundLaws
 pub mod RunLaws
+pub mod ChangeLaws
+pub mod ListedLaws
+pub mod SumLaws
+pub mod WithinLaws
+pub mod AddLaws

@@ -62,3 +62,10 @@ module _ (t : Table) (ok : IsTable t) where
       go : (0 < count_by (holds u) t.owners) ⊎ (count_by (holds u) t.owners ≤ 0) → OwnsRow t u ⊎ OwnsColumn t u
       go (inl h) = inl (has_place (holds u) t.owners nobody h)
       go (inr h) = inr (has_place (holds u) t.columns nobody (omega (arith, one)))
+
+  pub row_where_no_column : (u : ℕ) → u < size t → length t.columns ≤ column_of t u → OwnsRow t u
+  row_where_no_column u below past = go (owns_one u below)
+    where
+      go : OwnsRow t u ⊎ OwnsColumn t u → OwnsRow t u
+      go (inl h) = h
+      go (inr h) = absurd (omega arith)

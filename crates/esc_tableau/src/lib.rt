@@ -3,13 +3,21 @@
 #![tactic(auto)]
 
 mod answers;
+mod changing;
 mod grid;
+mod listed;
+mod lists;
 mod maximising;
 mod owner;
 mod rule;
 mod tableau;
+#[cfg(test)]
+mod tests;
 mod unknown;
 
 pub use answers::{Jam, Peak, RowStop, Step};
+pub use changing::{Part, Parts};
+pub use listed::Rows;
+pub use lists::{FracLists, Fracs, Unknowns};
 pub use tableau::Tableau;
 pub use unknown::Unknown;

@@ -1,14 +1,17 @@
-ghost use Rattle.std.specs.Prelude.{◌≡◌, ◌≢◌, ◌↔◌, ℕ, ◌<◌, [], length, pos, Ok, Err, IsOk, OnOk, OnErr, IfOk, IfErr};
-ghost use Rattle.esc_frac.specs.Rational.{zero_ℚ};
+ghost use Rattle.std.specs.Prelude.{◌≡◌, ◌≢◌, ◌↔◌, ℕ, ◌-◌, ◌<◌, true, false, [], ◌++◌, All, length, pos, Ok, Err, IsOk, OnOk, OnErr, IfOk, IfErr};
+ghost use Rattle.esc_frac.specs.Rational.{zero_ℚ, ◌≤ℚ◌};
+ghost use Rattle.esc_tableau.specs.Changes.{RowEnds, AddsColumn, AddsRow, Restricts, Frees, with_column, without_row, with_mark};
+ghost use Rattle.esc_tableau.specs.Listed.{tabled, restricted_in};
 ghost use Rattle.esc_rows.specs.Steps.{PivotFits};
-ghost use Rattle.esc_tableau.specs.Table.{IsSolution, IsWithin, SameSystem, OwnsRow, OwnsColumn, row_of, column_of, column, entry, pivoted, table, size, sample};
+ghost use Rattle.esc_tableau.specs.Table.{IsTable, IsSolution, IsWithin, SameSystem, OwnsRow, OwnsColumn, row_of, column_of, column, entry, pivoted, table, size, sample};
 ghost use Rattle.esc_tableau.specs.Run.{Ends, PeakHolds};
 
+use crate::changing::Parts;
 use crate::grid::Grid;
 use crate::owner::place_of;
-use crate::{Jam, Peak, Step, Unknown};
+use crate::{Jam, Peak, RowStop, Rows, Step, Unknown};
 use esc_frac::{Frac, Spill};
-use std::alloc::Global;
+use std::alloc::{AllocError, Global};
 use std::marker::Model;
 
 /// Linear equations in solved form: each row gives its owner as a sum of multiples of the columns'
@@ -37,7 +40,8 @@ impl Model for Tableau {
 impl Tableau {
     /// No unknowns and no rows.
     pub fn new(alloc: Global) -> Tableau
-        ensures { result ≡ table [] [] [] [] }
+        ensures empty { result ≡ table [] [] [] [] }
+        ensures within { IsWithin result (sample result) }
     {
         Tableau {
             grid: Grid {
@@ -48,6 +52,13 @@ impl Tableau {
             },
             alloc,
         }
+    }
+
+    /// How many unknowns there are: they are the numbers below.
+    pub fn count(&self) -> usize
+        ensures { result ≡ size self.now }
+    {
+        self.grid.count()
     }
 
     /// The unknown's value in the sample, the solution in which each unknown that owns a column is 0.
@@ -94,5 +105,83 @@ impl Tableau {
         ensures within { IsWithin self.new (sample self.new) }
     {
         self.grid.maximise(unknown, limit, self.alloc)
+    }
+
+    /// Makes an unknown that owns a column: the rows say nothing of it.
+    pub fn add_column(&mut self) -> Result<Unknown, AllocError>
+        ensures unknown { IfOk result (λ u. u ≡ size self.old) }
+        ensures ok { OnOk result (self.new ≡ with_column self.old) }
+        ensures err { OnErr result (self.new ≡ self.old) }
+        ensures adds { OnOk result (AddsColumn self.old self.new) }
+    {
+        self.grid.add_column()
+    }
+
+    /// Makes an unknown that owns a row: the sum of the parts and the constant. `Spill` where a step
+    /// of making the row does not fit. After a refusal the tableau is unchanged.
+    pub fn add_row(&mut self, parts: &Parts, constant: Frac) -> Result<Unknown, RowStop>
+        requires { All (λ part. part.unknown < size self.old) parts.now }
+        ensures ends { RowEnds self.old self.new parts.now constant result }
+        ensures adds { OnOk result (AddsRow self.old self.new parts.now constant) }
+    {
+        self.grid.add_row(parts.as_slice(), constant, self.alloc)
+    }
+
+    /// Drops the newest unknown, which owns a row, with its row.
+    pub fn drop_last(&mut self)
+        requires { OwnsRow self.old (size self.old - 1) }
+        ensures { self.new ≡ without_row self.old (row_of self.old (size self.old - 1)) }
+    {
+        self.grid.drop_last();
+    }
+
+    /// Restricts the unknown to be at least 0.
+    pub fn restrict(&mut self, unknown: Unknown)
+        requires unknown { unknown < size self.old }
+        requires sample { zero_ℚ ≤ℚ sample self.old unknown }
+        ensures marked { self.new ≡ with_mark self.old unknown true }
+        ensures restricts { Restricts self.old self.new unknown }
+    {
+        self.grid.mark(unknown, true);
+    }
+
+    /// Takes the unknown's restriction away.
+    pub fn free(&mut self, unknown: Unknown)
+        requires { unknown < size self.old }
+        ensures marked { self.new ≡ with_mark self.old unknown false }
+        ensures frees { Frees self.old self.new unknown }
+    {
+        self.grid.mark(unknown, false);
+    }
+
+    /// A copy of the rows, with the restricted unknowns.
+    pub fn rows(&self) -> Result<Rows, AllocError>
+        ensures restricted { IfOk result (λ rows. rows.restricted ≡ restricted_in (self.now.owners ++ self.now.columns)) }
+        ensures rows { IfOk result (λ rows. tabled rows ≡ self.now) }
+    {
+        self.grid.rows(self.alloc)
+    }
+
+    /// Puts these rows and restrictions in place of its own.
+    pub fn put(&mut self, rows: Rows)
+        requires table { IsTable (tabled rows) }
+        requires restricted { All (λ u. u < size (tabled rows)) rows.restricted }
+        requires within { IsWithin (tabled rows) (sample (tabled rows)) }
+        ensures rows { self.new ≡ tabled rows }
+        ensures within { IsWithin self.new (sample self.new) }
+    {
+        let Rows {
+            owners,
+            columns,
+            entries,
+            constants,
+            restricted,
+        } = rows;
+        self.grid = Grid {
+            owners: owners.into_owners(&restricted),
+            columns: columns.into_owners(&restricted),
+            entries: entries.into_lists(),
+            constants: constants.into_items(),
+        };
     }
 }
