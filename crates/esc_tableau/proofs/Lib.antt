@@ -16,3 +16,4 @@ pub mod ListedLaws
 pub mod SumLaws
 pub mod WithinLaws
 pub mod AddLaws
+pub mod DropLaws

@@ -1,15 +1,18 @@
 -- Unknowns in a list, and a table's rows as such lists.
-use Rattle.std.proofs.Common.{◌≡◌, ◌⊎◌, inl, inr, ℕ, zero, suc, ◌+◌, ◌<◌, ◌≤◌, Bool, true, false, not, ◌&&◌, ◌==◌, cond, List, [], ◌∷◌, ◌++◌, map, length, get_or, nat_lt, refl, sym, ap, ap₂, ◌∙◌, subst, arith}
-use Rattle.std.specs.List.{count_by, position_or_len, filter}
+use Rattle.std.proofs.Common.{◌≡◌, ◌⊎◌, inl, inr, ℕ, zero, suc, ◌+◌, ◌<◌, ◌≤◌, Bool, true, false, not, ◌&&◌, ◌==◌, cond, List, [], ◌∷◌, ◌++◌, map, length, get_or, nat_lt, Result, Ok, Err, refl, sym, ap, ap₂, ◌∙◌, subst, arith}
+use Rattle.std.specs.List.{All, count_by, position_or_len, filter}
+use Rattle.std.specs.Result.{IfOk}
+use Rattle.std.specs.declared.alloc.AllocError.{AllocError}
 use Rattle.std.proofs.lemmas.Bool.{cases_Bool, cases_lt, cond-true, cond-false, eq-eqb, lt-ltb, le-ltb, and_left, and_right, and_from}
 use Rattle.std.proofs.lemmas.List.{ext_get_or, length-map, get_or-map, map-append}
-use Rattle.std.proofs.lemmas.List.Elements.{filter-append}
+use Rattle.std.proofs.lemmas.List.Elements.{filter-append, All-map, All-filter, All-append, All-from_get_or}
 use Rattle.std.proofs.lemmas.List.Sums.{sum_by-append}
 use Rattle.esc_tableau.specs.Listed.{is_listed, owner_with, restricted_in, tabled}
-use Rattle.esc_tableau.specs.Table.{Table, IsTable, nobody, holds, is_marked, place_of, unknowns}
+use Rattle.esc_tableau.specs.Table.{Table, IsTable, size, nobody, holds, is_marked, place_of, unknowns}
+use Rattle.esc_tableau.specs.declared.listed.Rows.{Rows}
 use Rattle.esc_tableau.specs.declared.owner.Owner.{Owner}
 use Rattle.esc_tableau.proofs.Counting.{mark, mark_few, count_by-cons, count_at, has_place, no_place}
-use Rattle.esc_tableau.proofs.Places.{at_most_one}
+use Rattle.esc_tableau.proofs.Places.{at_most_one, owner_below, column_below}
 
 pub place_in_unknowns : (os : List Owner) (u : ℕ) → position_or_len (λ w. w == u) (unknowns os) ≡ place_of os u
 place_in_unknowns [] u = refl
@@ -119,3 +122,17 @@ module _ (t : Table) (ok : IsTable t) where
 
   pub columns_back : map (owner_with (restricted_in (t.owners ++ t.columns))) (unknowns t.columns) ≡ t.columns
   columns_back = back t.columns column_listed
+
+  -- the restricted unknowns are among the numbers
+  pub restricted_below : All (λ u. u < size t) (restricted_in (t.owners ++ t.columns))
+  restricted_below =
+      All-map (λ (u : ℕ). u < size t) (λ (o : Owner). o.unknown) (filter (λ o. o.restricted) (t.owners ++ t.columns))
+      (All-filter (λ (o : Owner). o.restricted) (λ (o : Owner). o.unknown < size t) (t.owners ++ t.columns)
+      (All-append (λ (o : Owner). o.unknown < size t) t.owners t.columns
+      (All-from_get_or (λ (o : Owner). o.unknown < size t) t.owners nobody (owner_below t ok))
+      (All-from_get_or (λ (o : Owner). o.unknown < size t) t.columns nobody (column_below t ok))))
+
+pub listed_among : (t : Table) → IsTable t → (r : Result Rows AllocError) → IfOk r (λ rows. rows.restricted ≡ restricted_in (t.owners ++ t.columns)) → IfOk r (λ rows. tabled rows ≡ t) → IfOk r (λ rows. All (λ u. u < size (tabled rows)) rows.restricted)
+listed_among t ok (Ok rows) restricted is =
+    subst (λ (us : List ℕ). All (λ u. u < size (tabled rows)) us) (sym restricted) (subst (λ (s : Table). All (λ u. u < size s) (restricted_in (t.owners ++ t.columns))) (sym is) (restricted_below t ok))
+listed_among t ok (Err e) restricted is = tt

@@ -13,6 +13,9 @@ use Rattle.esc_frac.proofs.OrderLaws.{≤ℚ_refl, ≤ℚ_trans, ratio-≤ℚ-ra
 pub le_from_lt : (p q : ℚ) → p <ℚ q → p ≤ℚ q
 le_from_lt p q h = omega (arith, ints)
 
+pub not_below : (p q : ℚ) → p <ℚ q → q ≤ℚ p → ⊥
+not_below p q h k = omega (arith, ints)
+
 pub sign_above : (n : ℤ) → sign_of n ≡ Above → pos 0 <ℤ n
 sign_above (pos zero) e = cc
 sign_above (pos (suc n)) e = omega (arith, ints)

@@ -12,7 +12,7 @@ use Rattle.esc_frac.proofs.OrderLaws.{≤ℚ_refl, ≤ℚ_trans, ranked_ℚ}
 use Rattle.esc_tableau.specs.Table.{Table, nobody, size, entry, row_of, column_of, OwnsRow, OwnsColumn}
 use Rattle.esc_tableau.specs.Rule.{slope, way, improving, or_next, first, entering, falls, bounding, ratio, lesser, least, leaving}
 use Rattle.esc_tableau.specs.declared.rule.Move.{Move}
-use Rattle.esc_tableau.proofs.Orders.{le_from_lt}
+use Rattle.esc_tableau.proofs.Orders.{le_from_lt, not_below}
 
 -- ---- the first number that has an answer
 
@@ -125,7 +125,7 @@ bounding_row t m w owns down = cond-true _ (Some (row_of t w)) None (ap (λ b. b
 -- ---- the row of least ratio
 
 record Lesser (t : Table) (m : Move) (best new : Option ℕ) (r : ℕ) : Type 0 where
-  pub from : (best ≡ Some r) ⊎ (new ≡ Some r)
+  pub from : (best ≡ Some r) ⊎ ((new ≡ Some r) × ((b : ℕ) → best ≡ Some b → ratio t m r <ℚ ratio t m b))
   pub below_best : (b : ℕ) → best ≡ Some b → ratio t m r ≤ℚ ratio t m b
   pub below_new : (n : ℕ) → new ≡ Some n → ratio t m r ≤ℚ ratio t m n
 
@@ -142,16 +142,19 @@ lesser_some t m best new r e = go best new e
     le_of_same : (x y : ℕ) → Some x ≡ Some y → ratio t m x ≤ℚ ratio t m y
     le_of_same x y h = subst (λ (k : ℕ). ratio t m x ≤ℚ ratio t m k) (same x y h) (≤ℚ_refl (ratio t m x))
 
+    less_of : (x y : ℕ) → Some x ≡ Some y → ratio t m r <ℚ ratio t m x → ratio t m r <ℚ ratio t m y
+    less_of x y h k = subst (λ (z : ℕ). ratio t m r <ℚ ratio t m z) (same x y h) k
+
     go : (best new : Option ℕ) → lesser t m best new ≡ Some r → Lesser t m best new r
     go None None h = cc
     go (Some b) None h = record { from = inl h; below_best = λ x k. le_of_same r x (sym h ∙ k); below_new = λ x k. cc }
-    go None (Some n) h = record { from = inr h; below_best = λ x k. cc; below_new = λ x k. le_of_same r x (sym h ∙ k) }
+    go None (Some n) h = record { from = inr (h, λ b k. cc); below_best = λ x k. cc; below_new = λ x k. le_of_same r x (sym h ∙ k) }
     go (Some b) (Some n) h = by_order (cmp_ℚ (ratio t m n) (ratio t m b)) refl
       where
         by_order : (o : Ordering) → o ≡ cmp_ℚ (ratio t m n) (ratio t m b) → Lesser t m (Some b) (Some n) r
         by_order Less o =
             let here : Some n ≡ Some r = sym (cond-true (is_lt (cmp_ℚ (ratio t m n) (ratio t m b))) (Some n) (Some b) (ap is_lt (sym o))) ∙ h in record {
-              from = inr here;
+              from = inr (here, λ b' k. less_of b b' k (subst (λ (x : ℕ). ratio t m x <ℚ ratio t m b) (same n r here) (ranked_ℚ (ratio t m n) (ratio t m b) Less o)));
               below_best = λ x k. ≤ℚ_trans (ratio t m r) (ratio t m n) (ratio t m x) (le_of_same r n (sym here)) (≤ℚ_trans (ratio t m n) (ratio t m b) (ratio t m x) (le_from_lt (ratio t m n) (ratio t m b) (ranked_ℚ (ratio t m n) (ratio t m b) Less o)) (le_of_same b x k));
               below_new = λ x k. le_of_same r x (sym here ∙ k);
             }
@@ -192,6 +195,8 @@ pub record Leaves (t : Table) (m : Move) (n r : ℕ) : Type 0 where
   pub below : owner < n
   pub bounds : bounding t m owner ≡ Some r
   pub least : (w x : ℕ) → w < n → bounding t m w ≡ Some x → ratio t m r ≤ℚ ratio t m x
+  -- on ties it is the first
+  pub first : (w x : ℕ) → w < n → bounding t m w ≡ Some x → ratio t m x ≡ ratio t m r → owner ≤ w
 
 pub least_some : (t : Table) (m : Move) (n r : ℕ) → least t m n ≡ Some r → Leaves t m n r
 least_some t m zero r e = cc
@@ -208,6 +213,23 @@ least_some t m (suc n) r e = go (least t m n) refl (lesser_some t m (least t m n
             split (inl less) (Some b) d' = ≤ℚ_trans (ratio t m r) (ratio t m b) (ratio t m x) (h.below_best b d') ((ind b d').least w x less at)
             split (inr more) o d' = let here : n ≡ w = omega arith in h.below_new x (ap (bounding t m) here ∙ at)
 
-        from : (least t m n ≡ Some r) ⊎ (bounding t m n ≡ Some r) → Leaves t m (suc n) r
-        from (inl k) = let old = ind r k in record { owner = old.owner; below = omega (arith, old.below); bounds = old.bounds; least = every }
-        from (inr k) = record { owner = n; below = omega arith; bounds = k; least = every }
+        from : (least t m n ≡ Some r) ⊎ ((bounding t m n ≡ Some r) × ((b : ℕ) → least t m n ≡ Some b → ratio t m r <ℚ ratio t m b)) → Leaves t m (suc n) r
+        from (inl k) =
+            let old = ind r k in record {
+              owner = old.owner;
+              below = omega (arith, old.below);
+              bounds = old.bounds;
+              least = every;
+              first = λ w x below at tie. earlier old w x at tie (cases_lt w n);
+            }
+          where
+            earlier : (old : Leaves t m n r) (w x : ℕ) → bounding t m w ≡ Some x → ratio t m x ≡ ratio t m r → (w < n) ⊎ (n ≤ w) → old.owner ≤ w
+            earlier old w x at tie (inl less) = old.first w x less at tie
+            earlier old w x at tie (inr more) = omega (arith, old.below)
+        from (inr k) = record { owner = n; below = omega arith; bounds = k.0; least = every; first = λ w x below at tie. none_before w x at tie o d (cases_lt w n) }
+          where
+            none_before : (w x : ℕ) → bounding t m w ≡ Some x → ratio t m x ≡ ratio t m r → (o : Option ℕ) → least t m n ≡ o → (w < n) ⊎ (n ≤ w) → n ≤ w
+            none_before w x at tie o d' (inr more) = more
+            none_before w x at tie None d' (inl less) = let none = least_none t m n d' w less in cc
+            none_before w x at tie (Some b) d' (inl less) =
+                absurd (not_below (ratio t m r) (ratio t m b) (k.1 b d') (subst (λ (q : ℚ). ratio t m b ≤ℚ q) tie ((ind b d').least w x less at)))

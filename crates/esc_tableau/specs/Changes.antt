@@ -117,6 +117,15 @@ without_row t r = record {
   constants = remove t.constants r;
 }
 
+-- the newest unknown was dropped with its row: each solution that is left comes from one before, and the other unknowns keep their restrictions and samples
+pub record DropsRow (old new : Table) : Type 0 where
+  pub fewer : size old ≡ size new + 1
+  pub solutions : (v : Point) → IsSolution old v → IsSolution new v
+  pub extends : (v : Point) → IsSolution new v → (w : Point) × IsSolution old w × ((u : ℕ) → u < size new → w u ≡ v u)
+  pub restrictions : (u : ℕ) → u < size new → IsRestricted old u ↔ IsRestricted new u
+  pub values : (u : ℕ) → u < size new → sample new u ≡ sample old u
+  pub within : IsWithin old (sample old) → IsWithin new (sample new)
+
 -- u was restricted, and nothing else changed
 pub record Restricts (old new : Table) (u : ℕ) : Type 0 where
   pub solutions : (v : Point) → IsSolution old v ↔ IsSolution new v

@@ -67,7 +67,7 @@ is_against false Negative = false
 is_against false Zero = false
 is_against false Above = true
 
--- the row's owner is restricted and falls along the move
+-- the row's owner is restricted and falls along the move; the unknown that is maximised never does, since it rises
 abbrev pub falls : Table → Move → ℕ → Bool
 falls t m r = (get_or t.owners r nobody).restricted && is_against m.up (sign_of (entry t r m.column).num)
 

@@ -1,6 +1,6 @@
 ghost use Rattle.std.specs.Prelude.{◌≡◌, ◌≢◌, ◌↔◌, ℕ, ◌-◌, ◌<◌, true, false, [], ◌++◌, All, length, pos, Ok, Err, IsOk, OnOk, OnErr, IfOk, IfErr};
 ghost use Rattle.esc_frac.specs.Rational.{zero_ℚ, ◌≤ℚ◌};
-ghost use Rattle.esc_tableau.specs.Changes.{RowEnds, AddsColumn, AddsRow, Restricts, Frees, with_column, without_row, with_mark};
+ghost use Rattle.esc_tableau.specs.Changes.{RowEnds, AddsColumn, AddsRow, DropsRow, Restricts, Frees, with_column, without_row, with_mark};
 ghost use Rattle.esc_tableau.specs.Listed.{tabled, restricted_in};
 ghost use Rattle.esc_rows.specs.Steps.{PivotFits};
 ghost use Rattle.esc_tableau.specs.Table.{IsTable, IsSolution, IsWithin, SameSystem, OwnsRow, OwnsColumn, row_of, column_of, column, entry, pivoted, table, size, sample};
@@ -130,7 +130,8 @@ impl Tableau {
     /// Drops the newest unknown, which owns a row, with its row.
     pub fn drop_last(&mut self)
         requires { OwnsRow self.old (size self.old - 1) }
-        ensures { self.new ≡ without_row self.old (row_of self.old (size self.old - 1)) }
+        ensures left { self.new ≡ without_row self.old (row_of self.old (size self.old - 1)) }
+        ensures drops { DropsRow self.old self.new }
     {
         self.grid.drop_last();
     }
@@ -158,6 +159,8 @@ impl Tableau {
     pub fn rows(&self) -> Result<Rows, AllocError>
         ensures restricted { IfOk result (λ rows. rows.restricted ≡ restricted_in (self.now.owners ++ self.now.columns)) }
         ensures rows { IfOk result (λ rows. tabled rows ≡ self.now) }
+        ensures table { IfOk result (λ rows. IsTable (tabled rows)) }
+        ensures among { IfOk result (λ rows. All (λ u. u < size (tabled rows)) rows.restricted) }
     {
         self.grid.rows(self.alloc)
     }
