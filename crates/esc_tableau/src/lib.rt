@@ -11,8 +11,6 @@ mod maximising;
 mod owner;
 mod rule;
 mod tableau;
-#[cfg(test)]
-mod tests;
 mod unknown;
 
 pub use answers::{Jam, Peak, RowStop, Step};

@@ -1,8 +1,8 @@
 ghost use Rattle.std.specs.Prelude.{◌≡◌};
 ghost use Rattle.esc_tableau.specs.Table.{IsWithin, sample};
 
-use super::*;
 use esc_frac::{Frac, Sign};
+use esc_tableau::{Jam, Part, Parts, Peak, Tableau, Unknown};
 use std::alloc::Global;
 use std::test::Fail;
 
