@@ -14,4 +14,3 @@ get_or-eliminated_constants [] ks c n i h l = absurd (omega arith)
 get_or-eliminated_constants (es ∷ ess) [] c n i h l = absurd (omega arith)
 get_or-eliminated_constants (es ∷ ess) (k ∷ ks) c n zero h l = refl
 get_or-eliminated_constants (es ∷ ess) (k ∷ ks) c n (suc i) h l = get_or-eliminated_constants ess ks c n i (omega arith) (omega arith)
-

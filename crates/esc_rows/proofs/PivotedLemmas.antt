@@ -1,8 +1,8 @@
 -- The rows and the constants that a pivot leaves, from what is known of each.
-use Rattle.std.proofs.Common.{◌≡◌, ◌≢◌, ℕ, zero, suc, ◌<◌, Bool, true, false, ◌==◌, List, [], ◌∷◌, map, length, set, get_or, refl, sym, ap, ◌∙◌, subst, arith, eqb-true, length-set, get_or-set_other, get_or-set_same}
+use Rattle.std.proofs.Common.{◌≡◌, ◌≢◌, ℕ, ◌<◌, Bool, true, false, ◌==◌, List, [], map, length, set, get_or, refl, sym, ◌∙◌, subst, arith, eqb-true, length-set, get_or-set_other, get_or-set_same}
 use Rattle.std.proofs.lemmas.Bool.{eqb-false}
 use Rattle.std.proofs.lemmas.List.{ext_get_or, length-map, get_or-map}
-use Rattle.esc_frac.specs.Rational.{ℚ, zero_ℚ, ◌+ℚ◌, neg_ℚ, ◌*ℚ◌, ◌/ℚ◌}
+use Rattle.esc_frac.specs.Rational.{ℚ, zero_ℚ, ◌+ℚ◌, ◌*ℚ◌}
 use Rattle.esc_rows.specs.Rows.{eliminated_constants}
 use Rattle.esc_rows.proofs.Constants.{length-eliminated_constants, get_or-eliminated_constants}
 
@@ -34,4 +34,3 @@ pub constants_pivoted : (ess : List (List ℚ)) (ks after : List ℚ) (c r : ℕ
 constants_pivoted ess ks after c r n l m h others =
     set_of_same zero_ℚ after (eliminated_constants ess ks c n) r n (m ∙ sym (length-eliminated_constants ess ks c n l)) (omega arith)
     (λ i inside other. let within : i < length ess = omega arith in others i within other ∙ sym (get_or-eliminated_constants ess ks c n i within l))
-

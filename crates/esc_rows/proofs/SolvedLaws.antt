@@ -1,7 +1,6 @@
 -- Where a row and its solved form hold, and what is left of another row.
-use Rattle.std.proofs.Common.{◌≡◌, ◌≢◌, ℕ, zero, suc, ◌<◌, List, [], ◌∷◌, map, length, set, get_or, Bool, true, false, ◌==◌, pos, refl, sym, ap, ap₂, ◌∙◌, subst, arith, eqb-true, length-set, get_or-set_other, get_or-set_same}
+use Rattle.std.proofs.Common.{◌≡◌, ◌≢◌, ℕ, ◌<◌, List, map, length, set, get_or, pos, sym, ap, ap₂, ◌∙◌, arith, length-set}
 use Rattle.std.proofs.lemmas.List.{length-map, get_or-map}
-use Rattle.std.proofs.lemmas.Bool.{eqb-false}
 use Rattle.esc_frac.specs.Rational.{ℚ, zero_ℚ, one_ℚ, ◌+ℚ◌, neg_ℚ, ◌*ℚ◌, inverse_ℚ, ◌/ℚ◌}
 use Rattle.esc_frac.proofs.FieldLaws.{+ℚ_comm, +ℚ_assoc, +ℚ-zero, zero-+ℚ, +ℚ-neg_ℚ, +ℚ_cancel, *ℚ_comm, *ℚ_assoc, *ℚ-one, *ℚ-+ℚ, +ℚ-*ℚ, neg_ℚ-*ℚ, *ℚ-inverse_ℚ}
 use Rattle.esc_rows.specs.Rows.{Point, combination, RowHolds, solved, eliminated}
@@ -96,4 +95,3 @@ module _ (v : Point) (es : List ℚ) (cs : List ℕ) (c o : ℕ) (k : ℚ) (h : 
       ∙ ap (λ y. left +ℚ m +ℚ y) (sym (*ℚ-+ℚ e (combination v row columns) constant) ∙ ap (λ y. e *ℚ y) (sym holds))
       ∙ +ℚ_right_comm left m (e *ℚ v (get_or cs c 0))
       ∙ ap (λ y. y +ℚ m) without
-

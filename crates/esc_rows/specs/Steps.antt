@@ -1,6 +1,6 @@
 -- Which steps of a pivot must fit.
 use Rattle.std.specs.Prelude.{◌≢◌, ℕ, ◌<◌, pos, List, [], length, set, get_or}
-use Rattle.esc_frac.specs.Rational.{ℚ, zero_ℚ, ◌*ℚ◌, neg_ℚ, ◌/ℚ◌}
+use Rattle.esc_frac.specs.Rational.{ℚ, zero_ℚ, ◌*ℚ◌}
 use Rattle.esc_frac.specs.Fits.{ProductFits, QuotientFits, SumFits}
 use Rattle.esc_rows.specs.Rows.{solved, solved_constant}
 

@@ -28,9 +28,9 @@ eliminate_rows-requires-clause-fits c =
     let row : c.deref.result.now ≡ solved own c.args.column =
     c.deref.ensures.value ∙ items-with_items c.swap.new.x c.solve.new.row (c.solve.auto.row ∙ ap length c.deref_mut.ensures.value) ∙ c.solve.ensures ∙ ap (λ (es : List ℚ). solved es c.args.column) was in
     λ i inside other.
-      subst (λ (es : List ℚ). (get_or es c.args.column zero_ℚ).num ≢ pos 0 → MultipleFits (get_or es c.args.column zero_ℚ) (set es c.args.column zero_ℚ) c.deref.result.now) (sym (apart i other))
-      (subst (λ (ns : List ℚ). (get_or (get_or old i []) c.args.column zero_ℚ).num ≢ pos 0 → MultipleFits (get_or (get_or old i []) c.args.column zero_ℚ) (set (get_or old i []) c.args.column zero_ℚ) ns) (sym row)
-          (c.requires.fits i (omega (arith, length-set c.args.rows.now c.args.row c.swap.new.y)) other))
+    subst (λ (es : List ℚ). (get_or es c.args.column zero_ℚ).num ≢ pos 0 → MultipleFits (get_or es c.args.column zero_ℚ) (set es c.args.column zero_ℚ) c.deref.result.now) (sym (apart i other))
+    (subst (λ (ns : List ℚ). (get_or (get_or old i []) c.args.column zero_ℚ).num ≢ pos 0 → MultipleFits (get_or (get_or old i []) c.args.column zero_ℚ) (set (get_or old i []) c.args.column zero_ℚ) ns) (sym row)
+    (c.requires.fits i (omega (arith, length-set c.args.rows.now c.args.row c.swap.new.y)) other))
 
 pub returns : goal.returns
 returns c =
@@ -49,4 +49,4 @@ returns c =
     ∙ ap (set after c.args.row) (ap (λ es. es.items) c.swap-2.ensures.y_after ∙ written)
     ∙ rows_pivoted old after (λ es. eliminated es c.args.column (solved own c.args.column)) c.args.row (solved own c.args.column) lengths inside
     (λ i h other. c.eliminate_rows.ensures.others i (omega (arith, length-map c.args.rows.now (λ es. es.items), length-set c.args.rows.now c.args.row c.swap.new.y)) other
-        ∙ ap₂ (λ (es ns : List ℚ). eliminated es c.args.column ns) (apart i other) row)
+    ∙ ap₂ (λ (es ns : List ℚ). eliminated es c.args.column ns) (apart i other) row)

@@ -1,4 +1,4 @@
-use Rattle.std.proofs.Common.{◌≡◌, ◌<◌, length, get_or, refl, ap₂, ◌∙◌, arith, le_refl, below_more, get_or-set_other, get_or-set_same, true≢false, sym}
+use Rattle.std.proofs.Common.{◌≡◌, ◌<◌, length, get_or, refl, ap₂, ◌∙◌, arith, le_refl, below_more, get_or-set_other, get_or-set_same, sym}
 use Rattle.esc_frac.specs.Rational.{ℚ, zero_ℚ, ◌+ℚ◌, ◌*ℚ◌}
 use Rattle.esc_rows.proofs.RowLemmas.{same_from_sums, same_step, element_is, not_both}
 use Rattle.esc_rows.proofs.steps.add_multiple.Goals as goal

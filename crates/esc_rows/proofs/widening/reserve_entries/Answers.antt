@@ -1,4 +1,4 @@
-use Rattle.std.proofs.Common.{◌≡◌, ◌+◌, ◌<◌, length, ◌∙◌, arith}
+use Rattle.std.proofs.Common.{◌<◌, ◌∙◌, arith}
 use Rattle.std.proofs.lemmas.List.Elements.{AllWithin-more_set}
 use Rattle.std.specs.Vec.{vec_len, vec_capacity}
 use Rattle.esc_rows.proofs.RowLemmas.{map-set_same}

@@ -1,4 +1,4 @@
-use Rattle.std.proofs.Common.{◌≡◌, ℕ, ◌<◌, map, get_or}
+use Rattle.std.proofs.Common.{◌≡◌, ◌<◌, map}
 use Rattle.std.specs.List.{AllWithin}
 use Rattle.std.specs.Vec.{vec_len, vec_capacity}
 use Rattle.esc_rows.proofs.widening.reserve_entries.Given as goal

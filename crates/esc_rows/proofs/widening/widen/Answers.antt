@@ -1,4 +1,4 @@
-use Rattle.std.proofs.Common.{◌≡◌, ◌≢◌, ℕ, ◌+◌, ◌<◌, List, [], ◌∷◌, ◌++◌, map, length, set, get_or, sym, ap, ap₂, ◌∙◌, subst, arith, le_refl}
+use Rattle.std.proofs.Common.{◌≡◌, ◌+◌, ◌<◌, List, [], ◌∷◌, ◌++◌, map, length, set, get_or, sym, ap, ap₂, ◌∙◌, subst, arith, le_refl}
 use Rattle.std.proofs.lemmas.List.{length-map, get_or-map, map-set, length-set, get_or-set_other}
 use Rattle.std.specs.Vec.{vec_len, vec_capacity}
 use Rattle.esc_frac.specs.Rational.{ℚ, zero_ℚ}
@@ -21,8 +21,8 @@ loop-row-preserved c =
       rows = subst (λ (after : List (List ℚ)). RewrittenBelow f old after (length c.args.rows.now) (place + 1)) (sym written)
           (RewrittenBelow_more f old rows (length c.args.rows.now) place (omega (arith, length-map c.loop-row.rows (λ es. es.items))) (omega arith) c.loop-row.invariant.rows);
       room = λ k d above below.
-        subst (λ es. vec_len es < vec_capacity es) (sym (get_or-set_other c.loop-row.rows place k c.push_reserved.new.self d (omega arith)))
-        (c.loop-row.invariant.room k d (omega arith) (omega (arith, length-set c.loop-row.rows place c.push_reserved.new.self)));
+          subst (λ es. vec_len es < vec_capacity es) (sym (get_or-set_other c.loop-row.rows place k c.push_reserved.new.self d (omega arith)))
+          (c.loop-row.invariant.room k d (omega arith) (omega (arith, length-set c.loop-row.rows place c.push_reserved.new.self)));
     }
 
 pub returns : goal.returns
