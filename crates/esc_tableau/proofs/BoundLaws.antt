@@ -1,10 +1,10 @@
 -- The least ratio so far, and the loops that look for an answer.
-use Rattle.std.proofs.Common.{◌≡◌, ℕ, zero, suc, ◌+◌, ◌<◌, Bool, true, false, Option, Some, None, refl, sym, ap, ◌∙◌, subst, arith, below_more, add-one}
+use Rattle.std.proofs.Common.{◌≡◌, ℕ, ◌+◌, ◌<◌, Bool, true, false, Option, Some, None, refl, sym, ap, ◌∙◌, subst, arith, below_more, add-one}
 use Rattle.std.specs.Option.{is_some, option_map}
 use Rattle.std.specs.Ordering.{is_lt}
 use Rattle.std.proofs.lemmas.Bool.{cond-true, cond-false}
 use Rattle.esc_frac.specs.Fits.{QuotientFits, ComparisonFits}
-use Rattle.esc_frac.specs.Rational.{ℚ, cmp_ℚ}
+use Rattle.esc_frac.specs.Rational.{cmp_ℚ}
 use Rattle.esc_tableau.specs.Table.{Table, row_constant, entry}
 use Rattle.esc_tableau.specs.Rule.{absolute, first, or_next, bounding, ratio, lesser, least}
 use Rattle.esc_tableau.specs.Run.{RatioFits, RatiosFit}

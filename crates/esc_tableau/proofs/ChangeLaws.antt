@@ -1,11 +1,11 @@
 -- What is left of a table by the calls that make, drop and mark unknowns is a table.
-use Rattle.std.proofs.Common.{◌≡◌, ◌≢◌, ◌⊎◌, inl, inr, ℕ, zero, suc, ◌+◌, ◌-◌, ◌<◌, ◌≤◌, Bool, true, false, ◌==◌, List, [], ◌∷◌, ◌++◌, map, length, set, get_or, take, drop, nat_lt, cond, Result, Ok, Err, refl, sym, ap, ap₂, ◌∙◌, subst, arith, length-set}
+use Rattle.std.proofs.Common.{◌≡◌, ◌⊎◌, inl, inr, ℕ, suc, ◌+◌, ◌-◌, ◌<◌, ◌≤◌, Bool, true, false, ◌==◌, List, [], ◌∷◌, ◌++◌, map, length, get_or, take, drop, nat_lt, Result, Ok, Err, refl, sym, ap, ap₂, ◌∙◌, subst, arith, length-set}
 use Rattle.std.specs.List.{count_by, remove, All}
 use Rattle.std.proofs.lemmas.Bool.{cases_lt, cases_order, lt-ltb, le-ltb, eq-eqb, ne_eqb, cond-true, cond-false, eqb-true}
 use Rattle.std.proofs.lemmas.List.{length-map, get_or-map, length_push, get_or_push, get_or_append_left, length-replicate, map-append, take-map, drop-map}
 use Rattle.std.proofs.lemmas.List.Edits.{length-remove, get_or-remove_below, get_or-remove_above}
 use Rattle.std.proofs.lemmas.List.Elements.{All-head, All-tail}
-use Rattle.esc_frac.specs.Rational.{ℚ, zero_ℚ, ◌+ℚ◌}
+use Rattle.esc_frac.specs.Rational.{ℚ, zero_ℚ}
 use Rattle.esc_rows.proofs.RowLemmas.{length-plus_multiple}
 use Rattle.esc_tableau.specs.Changes.{free_owner, with_column, with_row, without_row, marked, with_mark, Sum, sum, start_sum, plus_owner, plus_part, plus_parts, OwnerFits, PartFits, RowEnds}
 use Rattle.std.specs.Result.{IfOk, IsOk, OnOk, OnErr, OkIff}

@@ -1,13 +1,13 @@
 -- What dropping the newest unknown with its row keeps.
-use Rattle.std.proofs.Common.{◌≡◌, ◌≢◌, ◌⊎◌, inl, inr, ℕ, zero, suc, ◌+◌, ◌-◌, ◌<◌, ◌≤◌, Bool, true, false, ◌==◌, cond, List, [], ◌∷◌, length, get_or, refl, sym, ap, ap₂, ◌∙◌, subst, arith}
-use Rattle.std.specs.List.{count_by, remove}
+use Rattle.std.proofs.Common.{◌≡◌, ◌≢◌, ◌⊎◌, inl, inr, ℕ, suc, ◌+◌, ◌-◌, ◌<◌, ◌≤◌, false, ◌==◌, cond, List, [], ◌∷◌, length, get_or, refl, sym, ap, ap₂, ◌∙◌, subst, arith}
+use Rattle.std.specs.List.{count_by}
 use Rattle.std.proofs.lemmas.Bool.{cases_lt, cases_eq, and_left, cond-true, cond-false, eq-eqb, ne_eqb}
 use Rattle.std.proofs.lemmas.List.{length-map, get_or-map}
 use Rattle.std.proofs.lemmas.List.Edits.{length-remove, get_or-remove_below, get_or-remove_above}
 use Rattle.esc_frac.specs.Rational.{ℚ, zero_ℚ, ◌+ℚ◌, ◌*ℚ◌, ◌≤ℚ◌}
 use Rattle.esc_rows.specs.Rows.{Point, RowHolds, combination}
 use Rattle.esc_tableau.specs.Changes.{without_row, DropsRow}
-use Rattle.esc_tableau.specs.Table.{Table, IsTable, IsSolution, IsWithin, IsRestricted, OwnsRow, OwnsColumn, nobody, holds, is_marked, size, unknowns, owner, column, row_entries, row_constant, row_of, column_of, sample}
+use Rattle.esc_tableau.specs.Table.{Table, IsTable, IsSolution, IsRestricted, OwnsRow, OwnsColumn, nobody, holds, is_marked, size, unknowns, owner, column, row_entries, row_constant, row_of, column_of, sample}
 use Rattle.esc_tableau.proofs.ChangeLaws.{IsTable-without_row}
 use Rattle.esc_tableau.proofs.Counting.{mark, count_by-remove}
 use Rattle.esc_tableau.proofs.MoveLaws.{RestrictedRow, RestrictedColumn, restricted_place}

@@ -1,21 +1,21 @@
 -- What the rows' owners and the sample do along a move.
-use Rattle.std.proofs.Common.{◌≡◌, ◌≢◌, ◌⊎◌, inl, inr, ℕ, zero, suc, ◌+◌, ◌<◌, ◌≤◌, Bool, true, false, ◌&&◌, ◌==◌, List, [], ◌∷◌, length, get_or, nat_lt, refl, sym, ap, ap₂, ◌∙◌, subst, arith, eqb-true, length-set}
+use Rattle.std.proofs.Common.{◌≡◌, ◌≢◌, ◌⊎◌, inl, inr, ℕ, zero, suc, ◌<◌, ◌≤◌, true, false, List, [], ◌∷◌, length, get_or, refl, sym, ap, ap₂, ◌∙◌, subst, arith, eqb-true, length-set}
 use Rattle.std.specs.List.{count_by}
-use Rattle.std.proofs.lemmas.Bool.{cases_Bool, cases_eq, cases_lt, and_parts, and_from, cond-true, cond-false, eq-eqb, ne_eqb, lt-ltb, le-ltb, eqb-false}
+use Rattle.std.proofs.lemmas.Bool.{cases_Bool, cases_eq, cases_lt, and_parts, and_from, cond-true, cond-false, eq-eqb, ne_eqb, lt-ltb, le-ltb}
 use Rattle.std.proofs.lemmas.List.{length-map, get_or-map}
-use Rattle.esc_frac.specs.Rational.{ℚ, zero_ℚ, one_ℚ, ◌+ℚ◌, neg_ℚ, ◌*ℚ◌, inverse_ℚ, ◌/ℚ◌, ◌≤ℚ◌}
+use Rattle.esc_frac.specs.Rational.{ℚ, zero_ℚ, one_ℚ, ◌+ℚ◌, ◌*ℚ◌, inverse_ℚ, ◌≤ℚ◌}
 use Rattle.esc_frac.specs.Sign.{sign_of}
-use Rattle.esc_frac.proofs.FieldLaws.{+ℚ_comm, +ℚ-zero, zero-+ℚ, *ℚ_comm, *ℚ_assoc, *ℚ-one, *ℚ-zero, *ℚ-inverse_ℚ}
+use Rattle.esc_frac.proofs.FieldLaws.{+ℚ_comm, +ℚ-zero, zero-+ℚ, *ℚ_comm, *ℚ-one, *ℚ-zero}
 use Rattle.esc_frac.proofs.OrderLaws.{≤ℚ_refl}
 use Rattle.esc_rows.specs.Rows.{Point, combination, solved_constant}
 use Rattle.esc_rows.proofs.Combinations.{zero-*ℚ}
-use Rattle.esc_tableau.specs.Table.{Table, IsTable, IsSolution, IsWithin, IsRestricted, OwnsRow, OwnsColumn, nobody, unknowns, owner, column, entry, row_entries, row_constant, row_of, column_of, sample, holds, is_marked, pivoted}
+use Rattle.esc_tableau.specs.Table.{Table, IsTable, IsSolution, IsWithin, IsRestricted, nobody, unknowns, owner, column, entry, row_entries, row_constant, row_of, column_of, sample, is_marked, pivoted}
 use Rattle.esc_tableau.specs.Rule.{slope, absolute, is_against, falls, ratio}
 use Rattle.esc_tableau.specs.declared.owner.Owner.{Owner}
 use Rattle.esc_tableau.specs.declared.rule.Move.{Move}
 use Rattle.esc_tableau.proofs.Counting.{count_at, place_counts}
 use Rattle.esc_tableau.proofs.Orders.{sum_nonnegative, product_nonnegative, inverse_nonnegative}
-use Rattle.esc_tableau.proofs.Pivoted.{IsTable-pivoted, whole_owner-at_row, whole_owner-at_other, constant-at_row, constant-at_other, owner-at_other}
+use Rattle.esc_tableau.proofs.Pivoted.{IsTable-pivoted, whole_owner-at_row, whole_owner-at_other, constant-at_row, constant-at_other}
 use Rattle.esc_tableau.proofs.Places.{row_of-owner, column_of-column, no_row-column}
 use Rattle.esc_tableau.proofs.SampleLaws.{combination-zero, sample-owner, sample-column}
 use Rattle.esc_tableau.proofs.Signs.{push, push-*ℚ, push_nonnegative, falls_signs, stays_above}

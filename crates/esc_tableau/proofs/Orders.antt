@@ -1,14 +1,13 @@
 -- The order of rational numbers and their signs.
-use Rattle.std.proofs.Common.{◌≡◌, ◌≢◌, ◌⊎◌, inl, inr, ℕ, zero, suc, ◌<◌, ◌*◌, ℤ, pos, negsuc, ◌*ℤ◌, neg_ℤ, ◌≤ℤ◌, ◌<ℤ◌, refl, sym, ap, ap₂, ◌∙◌, subst, subst₂, arith, mul-pos}
+use Rattle.std.proofs.Common.{◌≡◌, ◌≢◌, ℕ, zero, suc, ◌<◌, ◌*◌, ℤ, pos, negsuc, ◌*ℤ◌, neg_ℤ, ◌≤ℤ◌, ◌<ℤ◌, refl, sym, subst, arith, mul-pos}
 use Rattle.std.proofs.lemmas.Int.{ints}
 use Rattle.esc_frac.specs.Integers.{*ℤ-≤ℤ}
-use Rattle.esc_frac.specs.Rational.{ℚ, zero_ℚ, one_ℚ, ratio, ◌+ℚ◌, neg_ℚ, ◌*ℚ◌, inverse_ℚ, flipped, ◌/ℚ◌, ◌≤ℚ◌, ◌<ℚ◌}
-use Rattle.esc_frac.specs.RationalLaws.{den_pos, zero_from_num}
+use Rattle.esc_frac.specs.Rational.{ℚ, zero_ℚ, ratio, ◌+ℚ◌, neg_ℚ, ◌*ℚ◌, inverse_ℚ, flipped, ◌≤ℚ◌, ◌<ℚ◌}
+use Rattle.esc_frac.specs.RationalLaws.{den_pos}
 use Rattle.esc_frac.specs.Sign.{sign_of}
-use Rattle.esc_frac.specs.declared.frac.Sign.{Sign}
 use Rattle.esc_frac.specs.declared.frac.Sign.TheVariants.{Negative, Zero, Positive as Above}
-use Rattle.esc_frac.proofs.FieldLaws.{+ℚ_comm, zero-+ℚ, +ℚ-zero, ratio-zero}
-use Rattle.esc_frac.proofs.OrderLaws.{≤ℚ_refl, ≤ℚ_trans, ratio-≤ℚ-ratio, ≤ℚ-+ℚ, zero-≤ℚ, num_of_zero-≤ℚ}
+use Rattle.esc_frac.proofs.FieldLaws.{zero-+ℚ, ratio-zero}
+use Rattle.esc_frac.proofs.OrderLaws.{≤ℚ_refl, ≤ℚ_trans, ratio-≤ℚ-ratio, ≤ℚ-+ℚ, num_of_zero-≤ℚ}
 
 pub le_from_lt : (p q : ℚ) → p <ℚ q → p ≤ℚ q
 le_from_lt p q h = omega (arith, ints)

@@ -1,19 +1,19 @@
 -- What is known where the rule stops, and after its pivot.
-use Rattle.std.proofs.Common.{◌≡◌, ◌≢◌, ◌⊎◌, inl, inr, ℕ, zero, suc, ◌<◌, ◌≤◌, Bool, true, false, List, [], ◌∷◌, Option, Some, None, length, get_or, nat_lt, pos, ◌≤ℤ◌, refl, sym, ap, ap₂, ◌∙◌, subst, arith}
+use Rattle.std.proofs.Common.{◌≡◌, ◌≢◌, ◌⊎◌, inl, inr, ℕ, suc, ◌<◌, Bool, true, false, List, [], ◌∷◌, Option, Some, None, length, get_or, pos, refl, sym, ap, ◌∙◌, subst, arith}
 use Rattle.std.proofs.lemmas.Int.{ints}
-use Rattle.std.proofs.lemmas.Bool.{cases_Bool, cond-true, cond-false, and_parts}
+use Rattle.std.proofs.lemmas.Bool.{cond-true, cond-false}
 use Rattle.std.proofs.lemmas.List.{length-map, get_or-map}
 use Rattle.esc_frac.specs.Rational.{ℚ, zero_ℚ, one_ℚ, ◌+ℚ◌, neg_ℚ, ◌*ℚ◌, inverse_ℚ, ◌/ℚ◌, ◌≤ℚ◌, ◌<ℚ◌}
 use Rattle.esc_frac.specs.RationalLaws.{zero_from_num}
 use Rattle.esc_frac.specs.Sign.{sign_of}
 use Rattle.esc_frac.specs.declared.frac.Sign.{Sign}
 use Rattle.esc_frac.specs.declared.frac.Sign.TheVariants.{Negative, Zero, Positive as Above}
-use Rattle.esc_frac.proofs.FieldLaws.{+ℚ_comm, +ℚ-zero, zero-+ℚ, +ℚ-neg_ℚ, *ℚ_comm, *ℚ_assoc, *ℚ-one, *ℚ-inverse_ℚ, neg_ℚ-*ℚ}
-use Rattle.esc_frac.proofs.OrderLaws.{≤ℚ_refl, ≤ℚ_trans, ≤ℚ-+ℚ, zero-≤ℚ, num_of_zero-≤ℚ}
+use Rattle.esc_frac.proofs.FieldLaws.{+ℚ_comm, zero-+ℚ, +ℚ-neg_ℚ, *ℚ_comm, *ℚ_assoc, *ℚ-one, *ℚ-inverse_ℚ, neg_ℚ-*ℚ}
+use Rattle.esc_frac.proofs.OrderLaws.{≤ℚ_refl, ≤ℚ_trans, ≤ℚ-+ℚ, zero-≤ℚ}
 use Rattle.esc_rows.specs.Rows.{Point, combination}
 use Rattle.esc_rows.proofs.Combinations.{zero-*ℚ}
-use Rattle.esc_tableau.specs.Table.{Table, IsTable, IsSolution, IsWithin, SameSystem, OwnsRow, OwnsColumn, nobody, unknowns, size, owner, column, entry, row_entries, row_constant, row_of, column_of, sample, pivoted}
-use Rattle.esc_tableau.specs.Rule.{is_positive, is_above, is_against, slope, absolute, improving, entering, falls, bounding, ratio, least, leaving, next, next_by_move, next_by_row}
+use Rattle.esc_tableau.specs.Table.{Table, IsTable, IsSolution, IsWithin, OwnsRow, OwnsColumn, nobody, unknowns, size, owner, column, entry, row_entries, row_constant, row_of, column_of, sample, pivoted}
+use Rattle.esc_tableau.specs.Rule.{is_positive, is_above, is_against, slope, absolute, improving, entering, falls, bounding, leaving, next, next_by_move, next_by_row}
 use Rattle.esc_tableau.specs.Run.{IsGreatest, GrowsAlong, PeakHolds}
 use Rattle.esc_tableau.specs.declared.answers.Peak.{Peak}
 use Rattle.esc_tableau.specs.declared.answers.Peak.TheVariants.{NotPositive, Positive}
@@ -22,10 +22,10 @@ use Rattle.esc_tableau.specs.declared.rule.Next.{Next}
 use Rattle.esc_tableau.specs.declared.rule.Next.TheVariants.{Stops, Pivots}
 use Rattle.esc_tableau.proofs.MoveLaws.{falls_parts, restricted_column, along, slope-owner, slope-column_same, along-column_other, IsSolution-along, IsWithin-along, IsWithin-after}
 use Rattle.esc_tableau.proofs.Orders.{sign_above, sign_negative, sign_zero, negative_nonnegative, product_nonnegative, inverse_nonnegative}
-use Rattle.esc_tableau.proofs.Places.{row_of-owner, column_of-column, owner-row_of, column-column_of, owner_below, column_below, owns_one, no_row-column}
-use Rattle.esc_tableau.proofs.RuleLaws.{first_none, first_some, Directed, Improves, improving_some, improving_none, Bounds, bounding_some, bounding_row, least_none, Leaves, least_some}
-use Rattle.esc_tableau.proofs.SampleLaws.{sample-owner, sample-column}
-use Rattle.esc_tableau.proofs.Signs.{push, push-*ℚ, Falls, falls_signs, neg_neg}
+use Rattle.esc_tableau.proofs.Places.{row_of-owner, column_of-column, owner-row_of, column-column_of, owner_below, column_below, owns_one}
+use Rattle.esc_tableau.proofs.RuleLaws.{first_none, first_some, Improves, improving_some, improving_none, Bounds, bounding_some, bounding_row, least_none, Leaves, least_some}
+use Rattle.esc_tableau.proofs.SampleLaws.{sample-column}
+use Rattle.esc_tableau.proofs.Signs.{push, push-*ℚ, falls_signs, neg_neg}
 
 -- ---- which move enters
 

@@ -1,11 +1,11 @@
 -- A pivot keeps the solutions.
-use Rattle.std.proofs.Common.{◌≡◌, ◌≢◌, ℕ, ◌<◌, Bool, true, false, ◌==◌, List, length, set, get_or, pos, refl, sym, ap, ap₂, ◌∙◌, subst, subst₂, arith, eqb-true, length-set}
+use Rattle.std.proofs.Common.{◌≡◌, ◌≢◌, ℕ, ◌<◌, Bool, true, false, ◌==◌, List, length, set, get_or, pos, refl, sym, ap, ap₂, ◌∙◌, subst, arith, eqb-true, length-set}
 use Rattle.std.proofs.lemmas.Bool.{eqb-false}
 use Rattle.std.proofs.lemmas.List.{length-map}
-use Rattle.esc_frac.specs.Rational.{ℚ, zero_ℚ, ◌+ℚ◌, ◌*ℚ◌}
+use Rattle.esc_frac.specs.Rational.{ℚ, ◌+ℚ◌, ◌*ℚ◌}
 use Rattle.esc_rows.specs.Rows.{Point, RowHolds, combination, solved, solved_constant, eliminated}
 use Rattle.esc_rows.proofs.SolvedLaws.{RowHolds-solved, RowHolds_from_solved, combination-eliminated}
-use Rattle.esc_tableau.specs.Table.{Table, IsTable, SameSystem, IsSolution, IsWithin, nobody, unknowns, owner, column, entry, row_entries, row_constant, pivoted}
+use Rattle.esc_tableau.specs.Table.{Table, IsTable, SameSystem, IsSolution, IsWithin, nobody, unknowns, owner, entry, row_entries, row_constant, pivoted}
 use Rattle.esc_tableau.proofs.Pivoted.{columns_are, column_is, owner-at_row, entries-at_row, constant-at_row, owner-at_other, entries-at_other, constant-at_other, IsRestricted-pivoted, IsRestricted_from_pivoted, size-pivoted}
 
 same_row : (v : Point) {cs cs' : List ℕ} {o o' : ℕ} {es es' : List ℚ} {k k' : ℚ} → cs ≡ cs' → o ≡ o' → es ≡ es' → k ≡ k' → RowHolds v cs o es k → RowHolds v cs' o' es' k'

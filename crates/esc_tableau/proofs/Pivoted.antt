@@ -7,7 +7,7 @@ use Rattle.esc_frac.specs.Rational.{ℚ, zero_ℚ, ◌+ℚ◌, ◌*ℚ◌}
 use Rattle.esc_rows.specs.Rows.{solved, solved_constant, eliminated, eliminated_constants}
 use Rattle.esc_rows.proofs.Constants.{length-eliminated_constants, get_or-eliminated_constants}
 use Rattle.esc_rows.proofs.RowLemmas.{length-solved, length-plus_multiple}
-use Rattle.esc_tableau.specs.Table.{Table, IsTable, IsNumbered, IsRestricted, nobody, unknowns, size, owner, column, entry, row_entries, row_constant, pivoted, holds, is_marked}
+use Rattle.esc_tableau.specs.Table.{Table, IsTable, IsRestricted, nobody, unknowns, size, owner, column, entry, row_entries, row_constant, pivoted, holds, is_marked}
 use Rattle.esc_tableau.specs.declared.owner.Owner.{Owner}
 use Rattle.esc_tableau.proofs.Counting.{count_by-set, mark}
 

@@ -1,8 +1,8 @@
 -- Each unknown owns one row or one column, and is found there.
-use Rattle.std.proofs.Common.{◌≡◌, ◌⊎◌, inl, inr, ℕ, ◌+◌, ◌<◌, ◌≤◌, Bool, true, length, get_or, refl, sym, ap, ◌∙◌, subst, arith, nat_lt}
+use Rattle.std.proofs.Common.{◌≡◌, ◌⊎◌, inl, inr, ℕ, ◌+◌, ◌<◌, ◌≤◌, true, length, get_or, refl, ◌∙◌, arith, nat_lt}
 use Rattle.std.specs.List.{count_by}
 use Rattle.std.proofs.lemmas.Bool.{eq-eqb, eqb-true, cases_lt, lt-ltb, le-ltb, cond-true, cond-false}
-use Rattle.esc_tableau.specs.Table.{Table, IsTable, IsNumbered, OwnsRow, OwnsColumn, nobody, size, holds, owner, column, row_of, column_of}
+use Rattle.esc_tableau.specs.Table.{Table, IsTable, OwnsRow, OwnsColumn, nobody, size, holds, owner, column, row_of, column_of}
 use Rattle.esc_tableau.specs.declared.owner.Owner.{Owner}
 use Rattle.esc_tableau.proofs.Counting.{count_at, only_place, passes_at_first, no_place, has_place, mark_few}
 

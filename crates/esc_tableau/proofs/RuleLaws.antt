@@ -1,16 +1,16 @@
 -- What the rule chooses.
-use Rattle.std.proofs.Common.{◌≡◌, ◌≢◌, ◌⊎◌, inl, inr, ℕ, zero, suc, ◌<◌, ◌≤◌, Bool, true, false, ◌&&◌, Option, Some, None, length, get_or, nat_lt, refl, sym, ap, ◌∙◌, subst, arith, pos}
+use Rattle.std.proofs.Common.{◌≡◌, ◌⊎◌, inl, inr, ℕ, zero, suc, ◌<◌, ◌≤◌, Bool, true, false, ◌&&◌, Option, Some, None, length, get_or, nat_lt, refl, sym, ap, ◌∙◌, subst, arith}
 use Rattle.std.specs.Ordering.{is_lt}
 use Rattle.std.specs.declared.cmp.Ordering.{Ordering}
 use Rattle.std.specs.declared.cmp.Ordering.TheVariants.{Less, Equal, Greater}
-use Rattle.std.proofs.lemmas.Bool.{cases_lt, cases_Bool, ltb-true, lt-ltb, and_parts, cond-true, cond-false, true≢false}
+use Rattle.std.proofs.lemmas.Bool.{cases_lt, ltb-true, lt-ltb, and_parts, cond-true, cond-false}
 use Rattle.esc_frac.specs.Rational.{ℚ, ◌≤ℚ◌, ◌<ℚ◌, cmp_ℚ}
 use Rattle.esc_frac.specs.Sign.{sign_of}
 use Rattle.esc_frac.specs.declared.frac.Sign.{Sign}
 use Rattle.esc_frac.specs.declared.frac.Sign.TheVariants.{Negative, Zero, Positive as Above}
 use Rattle.esc_frac.proofs.OrderLaws.{≤ℚ_refl, ≤ℚ_trans, ranked_ℚ}
-use Rattle.esc_tableau.specs.Table.{Table, nobody, size, entry, row_of, column_of, OwnsRow, OwnsColumn}
-use Rattle.esc_tableau.specs.Rule.{slope, way, improving, or_next, first, entering, falls, bounding, ratio, lesser, least, leaving}
+use Rattle.esc_tableau.specs.Table.{Table, nobody, row_of, column_of, OwnsRow, OwnsColumn}
+use Rattle.esc_tableau.specs.Rule.{slope, way, improving, or_next, first, falls, bounding, ratio, lesser, least}
 use Rattle.esc_tableau.specs.declared.rule.Move.{Move}
 use Rattle.esc_tableau.proofs.Orders.{le_from_lt, not_below}
 

@@ -2,16 +2,16 @@
 use Rattle.std.proofs.Common.{◌≡◌, ℕ, zero, suc, ◌+◌, ◌<◌, ◌≤◌, Result, Ok, Err, refl, sym, ap, ◌∙◌, subst, arith, below_more, add-one}
 use Rattle.esc_tableau.specs.Table.{Table, IsTable, IsWithin, SameSystem, sample, pivoted}
 use Rattle.esc_tableau.specs.Rule.{next}
-use Rattle.esc_tableau.specs.Run.{after_next, pivot_run, GoesOn, RatiosFit, RuleFits, NextFits, RuleJams, StepJams, Reached, Advanced, Advances, EndsIn, EndsSpent, EndsNow, Ends, PeakHolds}
+use Rattle.esc_tableau.specs.Run.{after_next, pivot_run, GoesOn, RatiosFit, RuleFits, NextFits, RuleJams, StepJams, Reached, Advanced, EndsIn, EndsNow, Ends, PeakHolds}
 use Rattle.esc_rows.specs.Steps.{PivotFits}
 use Rattle.std.specs.Result.{IsErr, IsErrAnd, IfOk}
 use Rattle.esc_tableau.specs.Rule.{is_positive, entering, leaving, next_by_move, next_by_row}
-use Rattle.esc_tableau.specs.Table.{size, column}
-use Rattle.esc_tableau.specs.declared.answers.Peak.TheVariants.{NotPositive, Positive}
+use Rattle.esc_tableau.specs.Table.{size}
+use Rattle.esc_tableau.specs.declared.answers.Peak.TheVariants.{Positive}
 use Rattle.esc_tableau.specs.declared.rule.Move.{Move}
 use Rattle.esc_tableau.specs.declared.rule.Next.{Next}
 use Rattle.esc_tableau.specs.declared.rule.Next.TheVariants.{Stops, Pivots}
-use Rattle.std.proofs.Common.{Bool, true, false, Option, Some, None, cond}
+use Rattle.std.proofs.Common.{false, Option, Some, None}
 use Rattle.std.proofs.lemmas.Bool.{cond-false}
 use Rattle.esc_tableau.specs.declared.answers.Peak.{Peak}
 use Rattle.esc_tableau.specs.declared.answers.Jam.{Jam}

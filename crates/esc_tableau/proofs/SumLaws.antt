@@ -1,18 +1,18 @@
 -- The row that is summed from parts says what the parts say.
-use Rattle.std.proofs.Common.{◌≡◌, ◌⊎◌, inl, inr, ℕ, zero, suc, ◌+◌, ◌<◌, ◌≤◌, Bool, true, false, List, [], ◌∷◌, ◌++◌, map, length, set, get_or, nat_lt, refl, sym, ap, ap₂, ◌∙◌, subst, arith}
+use Rattle.std.proofs.Common.{◌≡◌, ◌⊎◌, inl, inr, ℕ, zero, suc, ◌<◌, ◌≤◌, Bool, true, false, List, [], ◌∷◌, ◌++◌, length, set, get_or, nat_lt, refl, sym, ap, ap₂, ◌∙◌, subst, arith}
 use Rattle.std.specs.List.{All}
 use Rattle.std.specs.Prelude.{replicate}
-use Rattle.std.proofs.lemmas.Bool.{cases_Bool, cases_lt, cond-true, cond-false, ltb-true, ltb-false}
+use Rattle.std.proofs.lemmas.Bool.{cases_lt, cond-true, cond-false, ltb-true, ltb-false}
 use Rattle.std.proofs.lemmas.List.{length-map, get_or-map, map-append, length_push, get_or_push, get_or_append_left, set-get_or, length-replicate}
 use Rattle.std.proofs.lemmas.List.Elements.{All-head, All-tail}
 use Rattle.esc_frac.specs.Rational.{ℚ, zero_ℚ, ◌+ℚ◌, ◌*ℚ◌}
-use Rattle.esc_frac.proofs.FieldLaws.{+ℚ_comm, +ℚ_assoc, +ℚ_cancel, +ℚ-zero, zero-+ℚ, *ℚ-+ℚ, +ℚ-*ℚ}
-use Rattle.esc_rows.specs.Rows.{Point, combination, RowHolds, plus_multiple}
+use Rattle.esc_frac.proofs.FieldLaws.{+ℚ_comm, +ℚ_assoc, +ℚ_cancel, zero-+ℚ, *ℚ-+ℚ, +ℚ-*ℚ}
+use Rattle.esc_rows.specs.Rows.{Point, combination, RowHolds}
 use Rattle.esc_rows.proofs.Combinations.{zero-*ℚ, +ℚ_interchange, combination-set, combination-plus_multiple}
 use Rattle.esc_tableau.specs.Changes.{Sum, sum, start_sum, plus_owner, plus_part, plus_parts, parts_value, with_row, with_column, free_owner}
-use Rattle.esc_tableau.specs.Table.{Table, IsTable, IsSolution, nobody, size, unknowns, owner, column, row_entries, row_constant, row_of, column_of}
+use Rattle.esc_tableau.specs.Table.{Table, IsTable, IsSolution, nobody, size, unknowns, owner, row_entries, row_constant, row_of, column_of}
 use Rattle.esc_tableau.specs.declared.changing.Part.{Part}
-use Rattle.esc_tableau.proofs.ChangeLaws.{plus_part_wide, plus_parts_wide}
+use Rattle.esc_tableau.proofs.ChangeLaws.{plus_part_wide}
 use Rattle.esc_tableau.proofs.Places.{owner-row_of, column-column_of, row_where_no_column}
 
 -- what a sum is at a point

@@ -1,8 +1,8 @@
 -- What the calls that make and mark unknowns keep.
-use Rattle.std.proofs.Common.{◌≡◌, ◌≢◌, ◌⊎◌, inl, inr, ℕ, zero, suc, ◌+◌, ◌<◌, ◌≤◌, Bool, true, false, not, cond, List, [], ◌∷◌, ◌++◌, map, length, set, get_or, refl, sym, ap, ap₂, ◌∙◌, subst, arith, length-set, get_or-set_same, get_or-set_other, eqb-true}
+use Rattle.std.proofs.Common.{◌≡◌, ◌≢◌, ◌⊎◌, inl, inr, ℕ, zero, suc, ◌+◌, ◌<◌, ◌≤◌, Bool, true, false, not, cond, List, [], ◌∷◌, ◌++◌, length, set, get_or, refl, sym, ap, ap₂, ◌∙◌, subst, arith, length-set, get_or-set_same, get_or-set_other, eqb-true}
 use Rattle.std.specs.List.{count_by, position_or_len, All}
-use Rattle.std.proofs.lemmas.Bool.{cases_lt, cases_eq, and_right, eq-eqb}
-use Rattle.std.proofs.lemmas.List.{length-map, get_or-map, length_push, length-replicate, get_or_append_left, set_past}
+use Rattle.std.proofs.lemmas.Bool.{cases_lt, cases_eq, and_right}
+use Rattle.std.proofs.lemmas.List.{get_or-map, length_push, length-replicate, get_or_append_left, set_past}
 use Rattle.esc_frac.specs.Rational.{ℚ, zero_ℚ, ◌+ℚ◌, ◌≤ℚ◌}
 use Rattle.esc_rows.specs.Rows.{Point, combination}
 use Rattle.esc_rows.proofs.RowLemmas.{map-set_same}

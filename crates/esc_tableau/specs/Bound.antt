@@ -1,5 +1,5 @@
 -- The least ratio so far, beside its row.
-use Rattle.std.specs.Prelude.{◌≡◌, ℕ, Bool, Option, Some, None, if◌then◌else◌}
+use Rattle.std.specs.Prelude.{◌≡◌, ℕ, Option, Some, None, if◌then◌else◌}
 use Rattle.std.specs.Ordering.{is_lt}
 use Rattle.esc_frac.specs.Fits.{ComparisonFits}
 use Rattle.esc_frac.specs.Rational.{ℚ, cmp_ℚ}

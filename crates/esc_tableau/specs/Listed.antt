@@ -1,5 +1,5 @@
 -- Rows of unknowns, fractions and restrictions as a table.
-use Rattle.std.specs.Prelude.{ℕ, ◌<◌, Bool, ◌==◌, List, [], ◌∷◌, ◌++◌, map, length, nat_lt, if◌then◌else◌}
+use Rattle.std.specs.Prelude.{ℕ, Bool, ◌==◌, List, map, length, nat_lt}
 use Rattle.std.specs.List.{filter, position_or_len}
 use Rattle.esc_tableau.specs.Table.{Table, unknowns}
 use Rattle.esc_tableau.specs.declared.owner.Owner.{Owner}

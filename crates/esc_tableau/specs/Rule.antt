@@ -1,12 +1,11 @@
 -- The rule by which an unknown is maximised: which column enters, which row leaves. Of several the one of least unknown is taken, so that the rule cannot go round.
-use Rattle.std.specs.Prelude.{◌≡◌, ℕ, suc, zero, ◌<◌, Bool, true, false, ◌&&◌, ◌==◌, Option, Some, None, length, get_or, if◌then◌else◌, nat_lt}
+use Rattle.std.specs.Prelude.{ℕ, suc, zero, Bool, true, false, ◌&&◌, ◌==◌, Option, Some, None, length, get_or, if◌then◌else◌, nat_lt}
 use Rattle.std.specs.Ordering.{is_lt}
 use Rattle.esc_frac.specs.Rational.{ℚ, zero_ℚ, one_ℚ, neg_ℚ, ◌/ℚ◌, cmp_ℚ}
 use Rattle.esc_frac.specs.Sign.{sign_of}
 use Rattle.esc_frac.specs.declared.frac.Sign.{Sign}
 use Rattle.esc_frac.specs.declared.frac.Sign.TheVariants.{Negative, Zero, Positive as Above}
 use Rattle.esc_tableau.specs.Table.{Table, nobody, size, column, entry, row_constant, row_of, column_of, sample}
-use Rattle.esc_tableau.specs.declared.answers.Peak.{Peak}
 use Rattle.esc_tableau.specs.declared.answers.Peak.TheVariants.{NotPositive, Positive}
 use Rattle.esc_tableau.specs.declared.rule.Move.{Move}
 use Rattle.esc_tableau.specs.declared.rule.Next.{Next}

@@ -1,5 +1,5 @@
 -- A run of the rule, and how a maximising ends.
-use Rattle.std.specs.Prelude.{◌≡◌, ◌≢◌, ℕ, suc, zero, ◌<◌, ◌≤◌, Bool, true, false, length, Option, Some, None, Result, Ok, Err}
+use Rattle.std.specs.Prelude.{◌≡◌, ◌≢◌, ℕ, suc, zero, ◌<◌, ◌≤◌, false, length, Option, Some, None, Result, Ok, Err}
 use Rattle.esc_frac.specs.Fits.{QuotientFits, ComparisonFits}
 use Rattle.esc_frac.specs.Rational.{ℚ, zero_ℚ, ◌+ℚ◌, ◌≤ℚ◌, ◌<ℚ◌}
 use Rattle.esc_rows.specs.Rows.{Point}

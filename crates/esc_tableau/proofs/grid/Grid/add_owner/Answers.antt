@@ -1,10 +1,10 @@
-use Rattle.std.proofs.Common.{◌≡◌, ◌<◌, List, [], map, length, get_or, refl, sym, ap, ap₂, ◌∙◌, subst, arith, true≢false}
+use Rattle.std.proofs.Common.{◌≡◌, ◌<◌, [], length, refl, sym, ap, ap₂, ◌∙◌, subst, arith, true≢false}
 use Rattle.std.proofs.lemmas.List.{get_or-map, get_or_read, length-map}
 use Rattle.esc_frac.specs.Rational.{ℚ, zero_ℚ, ◌+ℚ◌, ◌*ℚ◌}
 use Rattle.esc_rows.specs.Rows.{plus_multiple}
 use Rattle.esc_rows.specs.Steps.{MultipleFits, StepFits}
 use Rattle.esc_rows.proofs.RowLemmas.{not_both}
-use Rattle.esc_tableau.specs.Changes.{sum, plus_owner, OwnerFits}
+use Rattle.esc_tableau.specs.Changes.{sum, plus_owner}
 use Rattle.esc_tableau.specs.Grid.{table_of}
 use Rattle.esc_tableau.specs.Table.{row_entries, row_constant}
 use Rattle.esc_tableau.proofs.ChangeLaws.{OkIff-ok, OkIff-fits, OkIff-value, IfOk-weaker}

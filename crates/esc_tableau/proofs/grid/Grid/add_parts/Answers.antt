@@ -1,7 +1,7 @@
-use Rattle.std.proofs.Common.{◌≡◌, ◌+◌, ◌<◌, List, [], ◌∷◌, length, drop, refl, sym, ap, ◌∙◌, subst, arith, true≢false}
+use Rattle.std.proofs.Common.{◌≡◌, ◌+◌, ◌<◌, [], ◌∷◌, length, drop, refl, sym, ap, ◌∙◌, subst, arith, true≢false}
 use Rattle.std.proofs.lemmas.List.{drop_more, drop_all}
 use Rattle.esc_rows.proofs.RowLemmas.{not_both}
-use Rattle.esc_tableau.specs.Changes.{Sum, sum, plus_part, plus_parts, PartsFit}
+use Rattle.esc_tableau.specs.Changes.{Sum, sum, plus_parts, PartsFit}
 use Rattle.esc_tableau.specs.Grid.{table_of}
 use Rattle.esc_tableau.specs.declared.changing.Part.{Part}
 use Rattle.esc_tableau.proofs.grid.Grid.add_parts.Goals as goal

@@ -1,7 +1,6 @@
 use Rattle.std.proofs.Common.{◌≡◌, refl, sym, ap, ◌∙◌, subst, true≢false}
 use Rattle.esc_tableau.specs.Grid.{table_of}
 use Rattle.esc_tableau.specs.Run.{after_next, Advances, StepJams}
-use Rattle.esc_tableau.specs.Table.{Table}
 use Rattle.esc_tableau.specs.declared.answers.Step.{Step}
 use Rattle.esc_tableau.proofs.PeakLaws.{good_pivot}
 use Rattle.esc_tableau.proofs.RunLaws.{err_is, next_fits}

@@ -1,4 +1,4 @@
-use Rattle.std.proofs.Common.{◌≡◌, ◌-◌, map, refl, sym, ap, ◌∙◌}
+use Rattle.std.proofs.Common.{◌≡◌, ◌-◌, map, refl, ap, ◌∙◌}
 use Rattle.std.specs.List.{remove}
 use Rattle.esc_tableau.specs.Grid.{table_of}
 use Rattle.esc_tableau.specs.Table.{place_of, row_of, size}

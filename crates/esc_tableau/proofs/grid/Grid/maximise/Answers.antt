@@ -1,9 +1,8 @@
-use Rattle.std.proofs.Common.{◌≡◌, ◌≤◌, Ok, refl, sym, ap, ◌∙◌, subst, arith, Option, Result, Err}
+use Rattle.std.proofs.Common.{Ok, subst, arith, Option}
 use Rattle.esc_tableau.specs.Grid.{table_of}
-use Rattle.esc_tableau.specs.Run.{Advances, Ends}
+use Rattle.esc_tableau.specs.Run.{Advances}
 use Rattle.esc_tableau.specs.declared.answers.Peak.{Peak}
-use Rattle.esc_tableau.specs.declared.answers.Step.{Step}
-use Rattle.esc_tableau.proofs.RunLaws.{reached_more, ends_in, ends_at, ends_last}
+use Rattle.esc_tableau.proofs.RunLaws.{reached_more, ends_in}
 use Rattle.esc_tableau.proofs.grid.Grid.maximise.Goals as goal
 
 pub returns-in-Ok-Some-clause-ends : goal.returns-in-Ok-Some-clause-ends

@@ -1,4 +1,4 @@
-use Rattle.std.proofs.Common.{◌≡◌, ◌<◌, List, [], map, length, set, get_or, sym, ap, ap₂, ◌∙◌, subst, arith}
+use Rattle.std.proofs.Common.{List, [], map, length, set, get_or, sym, ap, ap₂, ◌∙◌, subst}
 use Rattle.std.proofs.lemmas.List.{get_or_read}
 use Rattle.esc_frac.specs.Rational.{ℚ, zero_ℚ}
 use Rattle.esc_rows.specs.Rows.{solved, solved_constant, eliminated, eliminated_constants}

@@ -1,4 +1,4 @@
-use Rattle.std.proofs.Common.{◌≡◌, ◌++◌, List, ℕ, refl, sym, ap, ap₂, ◌∙◌, map}
+use Rattle.std.proofs.Common.{◌++◌, sym, ap, ap₂, ◌∙◌, map}
 use Rattle.esc_tableau.specs.Grid.{table_of}
 use Rattle.esc_tableau.specs.Listed.{owner_with, restricted_in}
 use Rattle.esc_tableau.specs.Table.{unknowns}

@@ -1,7 +1,7 @@
-use Rattle.std.proofs.Common.{◌≡◌, length, nat_lt, sym, ap, ap₂, ◌∙◌, subst}
+use Rattle.std.proofs.Common.{nat_lt, sym, ap, ap₂, ◌∙◌}
 use Rattle.std.proofs.lemmas.List.{length-map}
 use Rattle.esc_tableau.specs.Listed.{is_listed}
-use Rattle.esc_tableau.specs.Table.{place_of, unknowns}
+use Rattle.esc_tableau.specs.Table.{place_of}
 use Rattle.esc_tableau.proofs.ListedLaws.{place_in_unknowns}
 use Rattle.esc_tableau.proofs.lists.Unknowns.contains.Goals as goal
 

@@ -1,4 +1,4 @@
-use Rattle.std.proofs.Common.{◌≡◌, length, map, sym, ap, ◌∙◌}
+use Rattle.std.proofs.Common.{length, map, sym, ap, ◌∙◌}
 use Rattle.esc_rows.proofs.RowLemmas.{items-with_items}
 use Rattle.esc_tableau.specs.Listed.{owner_with}
 use Rattle.esc_tableau.specs.declared.owner.Owner.{Owner}

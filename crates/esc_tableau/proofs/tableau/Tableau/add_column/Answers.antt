@@ -1,6 +1,3 @@
-use Rattle.std.proofs.Common.{sym, subst}
-use Rattle.esc_tableau.specs.Changes.{AddsColumn}
-use Rattle.esc_tableau.specs.Table.{Table}
 use Rattle.esc_tableau.proofs.AddLaws.{column_ends_adds}
 use Rattle.esc_tableau.specs.Grid.{table_of}
 use Rattle.esc_tableau.proofs.ChangeLaws.{column_ends_table}
