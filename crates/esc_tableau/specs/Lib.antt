@@ -1,0 +1,7 @@
+pub mod Bound
+pub mod Changes
+pub mod Grid
+pub mod Listed
+pub mod Rule
+pub mod Run
+pub mod Table

@@ -1,0 +1,21 @@
+//! Linear equations over fractions in solved form, with restrictions, and the maximising of an
+//! unknown within them.
+#![tactic(auto)]
+
+mod answers;
+mod changing;
+mod grid;
+mod listed;
+mod lists;
+mod maximising;
+mod owner;
+mod rule;
+mod tableau;
+mod unknown;
+
+pub use answers::{Jam, Peak, RowStop, Step};
+pub use changing::{Part, Parts};
+pub use listed::Rows;
+pub use lists::{FracLists, Fracs, Unknowns};
+pub use tableau::Tableau;
+pub use unknown::Unknown;
