@@ -1,0 +1,3 @@
+pub mod NumberingLemmas
+mod ReservedLemmas
+pub mod RowLemmas

@@ -1,0 +1,4 @@
+pub mod Numbering
+pub mod Reading
+pub mod Reserved
+pub mod Rows
