@@ -1,0 +1,4 @@
+mod CommandLemmas
+pub mod FormulaLemmas
+mod NoteLoops
+mod PatternLemmas

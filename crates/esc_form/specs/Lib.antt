@@ -1,0 +1,4 @@
+pub mod Commands
+pub mod Formulas
+pub mod Forms
+pub mod Patterns

@@ -1,0 +1,16 @@
+//! Reads commands from expressions.
+#![tactic(auto)]
+
+mod build;
+mod command;
+mod form;
+mod formula;
+mod notes;
+mod read;
+
+pub use command::{Command, Kind};
+pub use esc_read::{FormFault, FormKind, FormStop};
+pub use read::read_command;
+
+#[cfg(test)]
+mod tests;
