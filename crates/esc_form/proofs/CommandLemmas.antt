@@ -1,5 +1,5 @@
 -- Commands, by their heads and counts.
-use Rattle.std.proofs.Common.{◌≡◌, ℕ, zero, suc, ◌+◌, ◌-◌, ◌<◌, ◌≤◌, ◌++◌, Bool, true, false, if◌then◌else◌, List, [], ◌∷◌, map, length, get_or, refl, sym, ◌∙◌, ap, subst, arith, append_assoc, Option, Some, None, Err, Result}
+use Rattle.std.proofs.Common.{◌≡◌, ℕ, suc, ◌+◌, ◌-◌, ◌<◌, ◌++◌, true, false, if◌then◌else◌, List, [], ◌∷◌, map, length, get_or, refl, sym, ◌∙◌, ap, subst, arith, append_assoc, Option, None, Err, Result}
 use Rattle.std.specs.Prelude.{nat_le}
 use Rattle.std.proofs.lemmas.Bool.Decides.{nat_tests}
 use denote.Hole.Carrier.{roll}
@@ -14,7 +14,7 @@ use Rattle.esc_read.specs.declared.fault.FormKind.TheVariants.{WrongCount, NotAF
 use Rattle.esc_read.specs.declared.fault.FormStop.{FormStop}
 use Rattle.esc_read.specs.declared.fault.FormStop.TheVariants.{Fault}
 use Rattle.esc_read.specs.declared.key.Order.{Order}
-use Rattle.esc_read.specs.Reading.{Reading, Reads, Plain, refuse, give, ◌>>=◌, ◌<$>◌, each, counted}
+use Rattle.esc_read.specs.Reading.{Reads, Plain, refuse, give, ◌>>=◌, ◌<$>◌, each, counted}
 use Rattle.esc_read.specs.Tokens.{head_of, place_of, text_of, token_of}
 use Rattle.esc_read.specs.Names.{declared, symbol}
 use Rattle.esc_read.proofs.Readings.{Plain-refuse}

@@ -1,5 +1,5 @@
 -- What an expression is as a formula, at each form of expression and each form of list.
-use Rattle.std.proofs.Common.{◌≡◌, ℕ, zero, suc, ◌++◌, ◌+◌, ◌-◌, ◌<◌, ◌≤◌, Bool, true, false, List, [], ◌∷◌, map, take, drop, length, get_or, refl, sym, ◌∙◌, ap, ap₂, subst, arith, Result}
+use Rattle.std.proofs.Common.{◌≡◌, ℕ, zero, suc, ◌++◌, ◌-◌, ◌<◌, ◌≤◌, List, [], ◌∷◌, map, take, length, get_or, refl, sym, ◌∙◌, ap, ap₂, subst, arith, Result}
 use Rattle.std.proofs.lemmas.List.{get_or_default, length-map}
 use denote.Hole.Carrier.{roll}
 use Rattle.esc_sexp.specs.declared.sexp.Sexp.{Sexp}
@@ -7,7 +7,6 @@ use Rattle.esc_sexp.specs.declared.sexp.Sexp.TheVariants.{Bare, Barred, List as 
 use Rattle.esc_sexp.specs.declared.sexp.Sexp.TheOpen.{Sexp-F}
 use Rattle.esc_sexp.specs.declared.sexp.Sexp.TheViews.{roll-Sexp}
 use Rattle.esc_sexp.specs.declared.sexp.Sexp.TheFolds.{para-roll-Sexp}
-use Rattle.esc_term.specs.declared.term.Term.{Term}
 use Rattle.esc_term.specs.declared.formula.Formula.{Formula}
 use Rattle.esc_term.specs.declared.formula.Formula.TheVariants as build
 use Rattle.esc_read.specs.declared.fault.FormKind.TheVariants.{WrongCount, EmptyList}
@@ -25,8 +24,7 @@ use Rattle.esc_form.specs.declared.form.BareForm.{BareForm}
 use Rattle.esc_form.specs.declared.form.Form.{Form}
 use Rattle.esc_form.specs.declared.form.Form.TheVariants as form
 use Rattle.esc_form.specs.Forms.{bare_form, form_of}
-use Rattle.esc_form.specs.Patterns.{all_notes}
-use Rattle.esc_form.specs.Formulas.{Part, bare_formula_by, before_last, bound, distinction, formula as reading, formula_step, holds, joined, junction, labelled, related, labelling_of, last_of, list_formula, list_formula_by, middle, negation, note_part, noted, part_of, quantifier, raw, relation_of}
+use Rattle.esc_form.specs.Formulas.{Part, bare_formula_by, before_last, distinction, formula as reading, formula_step, holds, joined, junction, labelled, related, labelling_of, last_of, list_formula, list_formula_by, middle, negation, noted, part_of, quantifier, raw, relation_of}
 
 pub formula-Bare : (place : ℕ) (text : List ℕ) (scope : List (List ℕ)) → reading (Bare place text) scope ≡ bare_formula_by (bare_form (bare_token text)) scope place text
 unfolding reading roll-Sexp roll

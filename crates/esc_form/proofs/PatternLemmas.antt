@@ -1,5 +1,5 @@
 -- Patterns, by their heads and counts.
-use Rattle.std.proofs.Common.{◌≡◌, ℕ, Bool, true, false, if◌then◌else◌, List, [], ◌∷◌, map, length, refl, sym, ap, subst, suc, arith, Option, Some, append-nil, Err, Result}
+use Rattle.std.proofs.Common.{◌≡◌, ℕ, true, false, if◌then◌else◌, List, [], ◌∷◌, map, length, refl, sym, ap, subst, suc, arith, Option, append-nil, Err, Result}
 use Rattle.std.specs.Prelude.{nat_le}
 use Rattle.std.proofs.lemmas.Bool.Decides.{nat_tests}
 use Rattle.esc_sexp.specs.declared.sexp.Sexp.{Sexp}

@@ -1,3 +1,4 @@
+pub mod BoundTerms
 pub mod Declaring
 pub mod Levels
 mod Numerals

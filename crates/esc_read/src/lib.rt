@@ -3,6 +3,7 @@
 
 mod fault;
 mod key;
+mod laws;
 mod name;
 mod numeral;
 mod scope;
@@ -12,6 +13,7 @@ mod tools;
 
 pub use fault::{FormFault, FormKind, FormStop};
 pub use key::{Binder, Join, Key, Labelling, Note, Operator, Order, Relation};
+pub use laws::term_laws;
 pub use name::{exhausted, read_declared, read_label, read_symbol, read_variables, refusal};
 pub use scope::Scope;
 pub use term::{read_application, read_name_term, read_term, read_terms};

@@ -1,6 +1,5 @@
-use Rattle.std.proofs.Common.{rules, arith, ◌≡◌, ◌+◌, ◌-◌, ◌<◌, ◌≤◌, ◌++◌, sym, refl, ◌∙◌, ap, subst, map, take, drop, length, get_or, Some, None}
-use Rattle.esc_read.proofs.Readings.{gives, lacking, next, plain, refused, stops}
-use Rattle.esc_read.specs.Reading.{Reads}
+use Rattle.std.proofs.Common.{rules, arith, ◌≡◌, ◌-◌, ◌<◌, ◌≤◌, ◌++◌, sym, refl, ◌∙◌, ap, subst, map, take, drop, length, get_or, Some, None}
+use Rattle.esc_read.proofs.Readings.{gives, next, plain, refused, stops}
 use Rattle.esc_read.proofs.Slices.{parted}
 use Rattle.esc_read.proofs.Readings.{Going-ends, Going-fails, Going-next}
 use Rattle.esc_form.specs.declared.form.Form.TheVariants as form

@@ -1,5 +1,5 @@
-use Rattle.std.proofs.Common.{rules, ◌≡◌, sym, refl, ◌∙◌, ap, map, take, drop, length, ◌-◌}
-use Rattle.esc_read.proofs.Readings.{gives, lacking, next, plain, refused, stops}
+use Rattle.std.proofs.Common.{refl, ◌∙◌, ap}
+use Rattle.esc_read.proofs.Readings.{gives, refused}
 use Rattle.esc_form.specs.Forms.{bare_form}
 use Rattle.esc_form.proofs.FormulaLemmas.{bare_by}
 use Rattle.esc_form.proofs.formula.read_bare.Goals as goal

@@ -1,5 +1,5 @@
-use Rattle.std.proofs.Common.{rules, ◌≡◌, sym, refl, ◌∙◌, ap, map, take, drop, length, ◌-◌}
-use Rattle.esc_read.proofs.Readings.{gives, lacking, next, plain, refused, stops}
+use Rattle.std.proofs.Common.{rules, refl}
+use Rattle.esc_read.proofs.Readings.{gives, next, refused, stops}
 use Rattle.esc_form.proofs.PatternLemmas.{distinct_none, distinct_some}
 use Rattle.esc_form.proofs.formula.read_distinction.Goals as goal
 

@@ -1,5 +1,5 @@
-use Rattle.std.proofs.Common.{rules, ◌≡◌, sym, refl, ◌∙◌, ap, map, take, drop, length, ◌-◌}
-use Rattle.esc_read.proofs.Readings.{gives, lacking, next, plain, refused, stops}
+use Rattle.std.proofs.Common.{rules, sym}
+use Rattle.esc_read.proofs.Readings.{gives, next, stops}
 use Rattle.esc_form.proofs.formula.read_predicate.Goals as goal
 
 pub returns-in_err-term : goal.returns-in_err-term

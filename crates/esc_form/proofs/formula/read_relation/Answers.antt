@@ -1,5 +1,5 @@
-use Rattle.std.proofs.Common.{rules, ◌≡◌, sym, refl, ◌∙◌, ap, map, take, drop, length, ◌-◌, get_or}
-use Rattle.esc_read.proofs.Readings.{gives, lacking, next, plain, refused, stops}
+use Rattle.std.proofs.Common.{rules, get_or}
+use Rattle.esc_read.proofs.Readings.{next, plain, refused, stops}
 use Rattle.esc_form.proofs.FormulaLemmas.{no_relation, second_part, yes_relation}
 use Rattle.esc_form.proofs.formula.read_relation.Goals as goal
 

@@ -1,5 +1,5 @@
-use Rattle.std.proofs.Common.{rules, ◌≡◌, sym, refl, ◌∙◌, ap, map, take, drop, length, ◌-◌}
-use Rattle.esc_read.proofs.Readings.{gives, lacking, next, plain, refused, stops}
+use Rattle.std.proofs.Common.{rules}
+use Rattle.esc_read.proofs.Readings.{gives, next, stops}
 use Rattle.esc_form.proofs.PatternLemmas.{lacks}
 use Rattle.esc_form.proofs.notes.read_one.Goals as goal
 

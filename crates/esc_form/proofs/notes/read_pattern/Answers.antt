@@ -1,5 +1,4 @@
-use Rattle.std.proofs.Common.{rules, ◌≡◌, sym, refl, ◌∙◌, ap, map, take, drop, length, ◌-◌}
-use Rattle.esc_read.proofs.Readings.{gives, lacking, next, plain, refused, stops}
+use Rattle.std.proofs.Common.{◌∙◌, ap}
 use Rattle.esc_form.specs.Forms.{is_multi}
 use Rattle.esc_form.proofs.PatternLemmas.{multi_pattern, one_pattern}
 use Rattle.esc_form.proofs.notes.read_pattern.Goals as goal

@@ -1,5 +1,4 @@
-use Rattle.std.proofs.Common.{rules, ◌≡◌, sym, refl, ◌∙◌, ap, map, take, drop, length, ◌-◌}
-use Rattle.esc_read.proofs.Readings.{gives, lacking, next, plain, refused, stops}
+use Rattle.std.proofs.Common.{rules}
 use Rattle.esc_read.proofs.Readings.{Going-ends, Going-fails, Going-next}
 use Rattle.esc_form.specs.Patterns.{pattern}
 use Rattle.esc_form.proofs.notes.read_patterns.Goals as goal

@@ -1,5 +1,4 @@
-use Rattle.std.proofs.Common.{rules, ◌≡◌, sym, refl, ◌∙◌, ap, map, take, drop, length, ◌-◌}
-use Rattle.esc_read.proofs.Readings.{gives, lacking, next, plain, refused, stops}
+use Rattle.esc_read.proofs.Readings.{refused}
 use Rattle.esc_form.proofs.PatternLemmas.{several_none, several_some}
 use Rattle.esc_form.proofs.notes.read_several.Goals as goal
 

@@ -1,4 +1,4 @@
-use Rattle.std.proofs.Common.{rules, arith, ◌≡◌, ◌++◌, ◌-◌, ◌+◌, ◌∷◌, [], sym, ◌∙◌, ap, subst, append-nil}
+use Rattle.std.proofs.Common.{rules, arith, ◌≡◌, ◌++◌, ◌-◌, ◌+◌, ◌∷◌, [], sym, ◌∙◌, ap, append-nil}
 use Rattle.esc_term.specs.declared.term.Term.TheVariants.{Var}
 use Rattle.esc_form.specs.Commands.{bound_variables}
 use Rattle.esc_form.proofs.CommandLemmas.{more_variables}

@@ -1,5 +1,5 @@
-use Rattle.std.proofs.Common.{rules, arith, ◌≡◌, sym, refl, ◌∙◌, ap, map, take, drop, length, get_or, ◌-◌, Some, None}
-use Rattle.esc_read.proofs.Readings.{gives, lacking, next, plain, refused, stops}
+use Rattle.std.proofs.Common.{rules}
+use Rattle.esc_read.proofs.Readings.{gives, next, stops}
 use Rattle.esc_form.specs.Commands.{command}
 use Rattle.esc_form.proofs.read.read_command.Goals as goal
 

@@ -1,5 +1,5 @@
-use Rattle.std.proofs.Common.{rules, arith, ◌≡◌, sym, refl, ◌∙◌, ap, map, take, drop, length, get_or, ◌-◌, Some, None}
-use Rattle.esc_read.proofs.Readings.{gives, lacking, next, plain, refused, stops}
+use Rattle.std.proofs.Common.{rules, sym}
+use Rattle.esc_read.proofs.Readings.{gives, next, refused, stops}
 use Rattle.esc_form.proofs.CommandLemmas.{defined_not, defined_one, defined_two}
 use Rattle.esc_form.proofs.read.read_definition.Goals as goal
 

@@ -1,5 +1,5 @@
-use Rattle.std.proofs.Common.{rules, arith, ◌≡◌, sym, refl, ◌∙◌, ap, map, take, drop, length, get_or, ◌-◌, Some, None}
-use Rattle.esc_read.proofs.Readings.{gives, lacking, next, plain, refused, stops}
+use Rattle.std.proofs.Common.{rules, Some, None}
+use Rattle.esc_read.proofs.Readings.{plain}
 use Rattle.esc_read.specs.declared.key.Order.TheVariants as order
 use Rattle.esc_form.proofs.CommandLemmas.{kind_is}
 use Rattle.esc_form.proofs.read.read_kind.Goals as goal

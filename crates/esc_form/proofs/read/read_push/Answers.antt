@@ -1,5 +1,5 @@
-use Rattle.std.proofs.Common.{rules, arith, ◌≡◌, sym, refl, ◌∙◌, ap, map, take, drop, length, get_or, ◌-◌, Some, None}
-use Rattle.esc_read.proofs.Readings.{gives, lacking, next, plain, refused, stops}
+use Rattle.std.proofs.Common.{rules, refl}
+use Rattle.esc_read.proofs.Readings.{gives, next, refused, stops}
 use Rattle.esc_form.proofs.CommandLemmas.{pushed_none, pushed_some}
 use Rattle.esc_form.proofs.read.read_push.Goals as goal
 

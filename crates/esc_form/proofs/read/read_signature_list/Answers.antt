@@ -1,5 +1,5 @@
-use Rattle.std.proofs.Common.{rules, arith, ◌≡◌, sym, refl, ◌∙◌, ap, map, take, drop, length, get_or, ◌-◌, Some, None}
-use Rattle.esc_read.proofs.Readings.{gives, lacking, next, plain, refused, stops}
+use Rattle.std.proofs.Common.{rules, ◌∙◌, ap, take, drop, length, ◌-◌}
+use Rattle.esc_read.proofs.Readings.{gives, next, plain, refused, stops}
 use Rattle.esc_read.proofs.Slices.{parted}
 use Rattle.esc_form.specs.Commands.{is_name}
 use Rattle.esc_form.proofs.CommandLemmas.{empty_signature, named_signature, other_signature}
