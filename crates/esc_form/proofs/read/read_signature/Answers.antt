@@ -1,0 +1,15 @@
+use Rattle.std.proofs.Common.{rules}
+use Rattle.esc_read.proofs.Readings.{refused}
+use Rattle.esc_form.proofs.CommandLemmas.{bare_signature, barred_signature, listed_signature}
+use Rattle.esc_form.proofs.read.read_signature.Goals as goal
+
+pub returns-in-List : goal.returns-in-List
+returns-in-List c =
+    rw (listed_signature c.args.sexp.now _ c.in-List.items c.as_slice.result.now c.in-List.is c.as_slice.ensures)
+    (rw c.place_of-place.ensures at c.read_signature_list.ensures)
+
+pub returns-in-Bare : goal.returns-in-Bare
+returns-in-Bare c = rw (bare_signature c.args.sexp.now _ _ c.in-Bare.is) (refused (search rules))
+
+pub returns-in-Barred : goal.returns-in-Barred
+returns-in-Barred c = rw (barred_signature c.args.sexp.now _ _ c.in-Barred.is) (refused (search rules))

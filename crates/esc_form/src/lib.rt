@@ -1,0 +1,18 @@
+//! Reads commands from expressions.
+#![tactic(auto)]
+
+mod build;
+mod command;
+mod form;
+mod formula;
+mod laws;
+mod notes;
+mod read;
+
+pub use command::{Command, Kind};
+pub use esc_read::{FormFault, FormKind, FormStop};
+pub use laws::reading_laws;
+pub use read::read_command;
+
+#[cfg(test)]
+mod tests;

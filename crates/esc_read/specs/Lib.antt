@@ -1,0 +1,5 @@
+pub mod Laws
+pub mod Names
+pub mod Reading
+pub mod Terms
+pub mod Tokens
