@@ -30,9 +30,9 @@ use Rattle.esc_term.proofs.TruthLevels as levels
 use Rattle.esc_term.proofs.Wholes.{domain-whole, of_member}
 use Rattle.esc_cover.specs.Classes.{active_terms, classes_by, has, together}
 use Rattle.esc_cover.specs.Cover.{are_between, cover, every_two, is_forced_apart, is_literal, numerals_part, parts, parts_form, some_two}
-use Rattle.esc_cover.specs.Counterexample.{atoms_of}
+use Rattle.esc_cover.specs.Counterexample.{Counterexample, IsConsistent, atoms_of}
 use Rattle.esc_cover.specs.Laws.{NotRefuted, is_free_form, is_free_head, is_free_of_numbers, is_order_form}
-use Rattle.esc_cover.specs.Least.{IsClosed}
+use Rattle.esc_cover.specs.Least.{IsClosed, IsLeast}
 use Rattle.esc_cover.proofs.ActiveTerms.{active, of_active}
 use Rattle.esc_cover.proofs.AtomsLevels as atoms
 use Rattle.esc_cover.proofs.CoverLevels as covers
@@ -150,7 +150,7 @@ module _ (literals : List Item) (formulas : List Formula) (same : Term → Term 
     abbrev unordered : List Formula → Bool
     unordered fs = list_all (λ atom. not (is_order_form (out-Formula atom))) fs
 
-    record IsSaid (f : Formula) : Type 0 where
+    pub record IsSaid (f : Formula) : Type 0 where
       pub holds : (cover literals classes f).holds ≡ true → truth numbers f ≡ true
       pub fails : (cover literals classes f).fails ≡ true → truth numbers f ≡ false
 
@@ -260,7 +260,7 @@ module _ (literals : List Item) (formulas : List Formula) (same : Term → Term 
         let part = e.1 (ap unordered (sym (atoms.atoms_of-LabelNeg name e.0)) ∙ free) in
         said_by (formula.LabelNeg name e.0) _ (truth numbers e.0) (covers.cover-LabelNeg literals classes name e.0) (levels.truth-LabelNeg numbers name e.0) part.holds part.fails
 
-    said : (f : Formula) → Said f
+    pub said : (f : Formula) → Said f
     said = ind-Formula Said Any_quant (λ x y is. subst (λ z. Said (roll-Formula z)) is (said_at y)) (λ x y is. tt)
 
   -- ---- the numbers are an interpretation
@@ -356,3 +356,13 @@ not_refuted literals _ formulas free cex refuted =
     let stands : Contains formulas f = All-contains_itself formulas k d h in
     (said literals formulas same closed cex.consistent.one_sign f (and_right _ _ (all_at is_free_of_numbers formulas f free stands))).holds
     (ap (λ cs. (cover literals cs f).holds) (sym cex.least.shown) ∙ cex.covered k d h))
+
+-- no formula without order is said both to hold and to fail
+pub not_both_ways : (literals : List Item) (classes : List (List Term)) (formulas : List Formula) → IsLeast literals formulas classes → IsConsistent literals classes
+    → (f : Formula) → list_all (λ atom. not (is_order_form (out-Formula atom))) (atoms_of f) ≡ true
+    → (cover literals classes f).holds ≡ true → (cover literals classes f).fails ≡ true → ⊥
+not_both_ways literals _ formulas least consistent f free holds fails =
+    let both = said literals formulas least.same least.closed consistent.one_sign f free in
+    not_both (truth (numbers literals formulas least.same least.closed) f)
+    (both.holds (ap (λ cs. (cover literals cs f).holds) (sym least.shown) ∙ holds))
+    (both.fails (ap (λ cs. (cover literals cs f).fails) (sym least.shown) ∙ fails))
