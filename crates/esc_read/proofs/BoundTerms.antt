@@ -1,10 +1,9 @@
 -- The variables of a term that is read are in scope.
-use Rattle.std.proofs.Common.{◌≡◌, ℕ, zero, suc, ◌<◌, ◌≤◌, Bool, true, false, cond, if◌then◌else◌, ◌&&◌, nat_lt, List, [], ◌∷◌, map, length, drop, refl, sym, ◌∙◌, ap, subst, arith, Option, Some, None, Ok, Err}
+use Rattle.std.proofs.Common.{◌≡◌, ℕ, Bool, true, false, cond, if◌then◌else◌, ◌&&◌, nat_lt, List, [], ◌∷◌, map, length, refl, sym, ◌∙◌, ap, subst, Option, Some, None, Ok, Err}
 use Rattle.std.specs.List.{list_all, position, position_or_len}
 use Rattle.std.specs.Str.{bytes_eq}
 use denote.Hole.Carrier.{roll}
 use Rattle.esc_sexp.specs.declared.sexp.Sexp.{Sexp}
-use Rattle.esc_sexp.specs.declared.sexp.Sexp.TheVariants.{Bare, Barred, List as Listed}
 use Rattle.esc_sexp.specs.declared.sexp.Sexp.TheOpen.{Sexp-F}
 use Rattle.esc_sexp.specs.declared.sexp.Sexp.TheViews.{roll-Sexp}
 use Rattle.esc_sexp.specs.declared.sexp.Sexp.TheFolds.{ind-Sexp, map-Sexp}
@@ -23,10 +22,9 @@ use Rattle.esc_read.specs.declared.term.TermHead.TheVariants as by
 use Rattle.esc_read.specs.Reading.{Numbering, Outcome, Reading, give, refuse, number_of, and_then, ◌>>=◌, ◌<$>◌, each, counted}
 use Rattle.esc_read.specs.Tokens.{bare_token, decimal_value, digits_of, numeral, place_of, text_of, token_of}
 use Rattle.esc_read.specs.Names.{permit, symbol}
-use Rattle.esc_read.specs.Terms.{application, bare_term, bare_term_by, calculation, largest, list_term, list_term_by, name_term, numeral_term, operation, takes, term, term_head, variable_or_constant}
+use Rattle.esc_read.specs.Terms.{application, bare_term, bare_term_by, largest, list_term, list_term_by, name_term, numeral_term, operation, takes, term, term_head, variable_or_constant}
 use Rattle.esc_read.proofs.Levels.{term-Bare, term-Barred, term-List}
 use Rattle.std.specs.Prelude.{nat_le}
-use Rattle.std.proofs.lemmas.Bool.Decides.{nat_tests}
 
 -- ---- what was read before
 

@@ -1,9 +1,9 @@
 -- How a list of variables is read from the front.
-use Rattle.std.proofs.Common.{◌≡◌, ℕ, ◌+◌, ◌<◌, ◌≤◌, List, [], ◌∷◌, drop, length, get_or, refl, sym, ◌∙◌, ap, subst, arith, Ok, Err, Result}
+use Rattle.std.proofs.Common.{◌≡◌, ℕ, ◌+◌, ◌<◌, ◌≤◌, List, ◌∷◌, drop, length, get_or, refl, sym, ◌∙◌, ap, subst, Ok, Err, Result}
 use Rattle.std.proofs.lemmas.List.{drop_more}
 use Rattle.esc_sexp.specs.declared.sexp.Sexp.{Sexp}
 use Rattle.esc_read.specs.declared.fault.FormStop.{FormStop}
-use Rattle.esc_read.specs.Reading.{Numbering, Reading, Outcome, Plain, Tells, give, and_then, ◌>>=◌}
+use Rattle.esc_read.specs.Reading.{Numbering, Plain, Tells, give, and_then, ◌>>=◌}
 use Rattle.esc_read.specs.Tokens.{text_of}
 use Rattle.esc_read.specs.Names.{declared, variable}
 use Rattle.esc_read.proofs.Readings.{Plain-stops, drop-past}

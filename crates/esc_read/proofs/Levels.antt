@@ -6,10 +6,9 @@ use Rattle.esc_sexp.specs.declared.sexp.Sexp.TheOpen.{Sexp-F}
 use Rattle.esc_sexp.specs.declared.sexp.Sexp.TheViews.{roll-Sexp, out-roll-Sexp}
 use Rattle.esc_sexp.specs.declared.sexp.Sexp.TheFolds.{para-roll-Sexp}
 use denote.Hole.Carrier.{roll}
-use Rattle.esc_read.specs.declared.token.Token.{Token}
 use Rattle.esc_read.specs.declared.token.Token.TheVariants as token
 use Rattle.esc_term.specs.declared.term.Term.{Term}
-use Rattle.esc_read.specs.declared.fault.FormKind.TheVariants.{NotATerm, EmptyList}
+use Rattle.esc_read.specs.declared.fault.FormKind.TheVariants.{NotATerm}
 use Rattle.esc_read.specs.Reading.{Reading, refuse}
 use Rattle.esc_read.specs.Tokens.{bare_token, token_step, token_of, place_step, place_of, text_step, text_of, first_token, head_step, head_of, args_step, args_of}
 use Rattle.esc_read.specs.Names.{declared, variables_step, variables}

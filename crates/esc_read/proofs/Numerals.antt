@@ -1,12 +1,11 @@
 -- What a numeral gives that is not too large.
-use Rattle.std.proofs.Common.{◌≡◌, ℕ, ◌-◌, ◌^◌, ◌≤◌, min, ℤ, pos, neg_ℤ, ◌-ℤ◌, Bool, true, false, List, Ok, refl, sym, ◌∙◌, ap, subst, arith, w64}
+use Rattle.std.proofs.Common.{◌≡◌, ℕ, ◌-◌, ◌^◌, ◌≤◌, min, ℤ, pos, neg_ℤ, ◌-ℤ◌, true, false, List, Ok, sym, ◌∙◌, ap, arith, w64}
 use Rattle.std.proofs.lemmas.Int.{ints, to_z-of_z, to_z_pos}
 use Rattle.std.proofs.Common.{to_z, of_z}
 use Rattle.std.proofs.lemmas.Bool.Decides.{nat_tests}
 use Rattle.std.specs.Prelude.{nat_le, if◌then◌else◌}
-use Rattle.esc_term.specs.declared.term.Term.{Term}
 use Rattle.esc_term.specs.declared.term.Term.TheVariants.{Num}
-use Rattle.esc_read.specs.Reading.{Plain, Reading, give}
+use Rattle.esc_read.specs.Reading.{Plain}
 use Rattle.esc_read.specs.Tokens.{decimal_value, digits_of, is_negative, numeral}
 use Rattle.esc_read.specs.Terms.{numeral_term, largest}
 use Rattle.esc_read.proofs.Readings.{Plain-give}

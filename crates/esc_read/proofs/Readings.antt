@@ -2,14 +2,12 @@
 use Rattle.std.proofs.Common.{◌≡◌, ℕ, ◌+◌, ◌<◌, ◌≤◌, arith, zero, suc, inl, inr, add-one, List, [], ◌∷◌, ◌++◌, map, drop, length, get_or, refl, sym, ◌∙◌, ap, subst, append_assoc, append-nil, Some, Ok, Err, Result}
 use Rattle.std.proofs.Math.Seq.{drop-cons}
 use Rattle.std.specs.Prelude.{slice_get}
-use Rattle.std.specs.List.{Contains}
 use Rattle.esc_term.specs.declared.term.Sym.{Sym}
 use Rattle.esc_names.specs.Numbering.{IsNumbered}
 use Rattle.esc_read.specs.declared.fault.FormKind.{FormKind}
-use Rattle.esc_read.specs.declared.fault.FormFault.{FormFault}
 use Rattle.esc_read.specs.declared.fault.FormStop.{FormStop}
 use Rattle.esc_read.specs.declared.fault.FormStop.TheVariants.{Fault, Memory}
-use Rattle.esc_read.specs.Reading.{Numbering, Outcome, Reading, give, refuse, number_of, and_then, ◌>>=◌, ◌<$>◌, each, Numbers, Extends, Tells, Reads, Plain}
+use Rattle.esc_read.specs.Reading.{Numbering, Outcome, Reading, give, refuse, number_of, and_then, ◌>>=◌, each, Numbers, Extends, Tells, Reads, Plain}
 
 -- ---- tables that grow
 

@@ -1,4 +1,3 @@
-use Rattle.std.proofs.Common.{sym}
 use Rattle.esc_read.proofs.BoundTerms.{term_bound}
 use Rattle.esc_read.proofs.laws.term_laws.Goals as goal
 

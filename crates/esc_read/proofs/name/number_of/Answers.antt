@@ -1,4 +1,4 @@
-use Rattle.std.proofs.Common.{rules, ◌≡◌}
+use Rattle.std.proofs.Common.{rules}
 use Rattle.esc_read.proofs.Readings.{Reads-number}
 use Rattle.esc_read.proofs.name.number_of.Goals as goal
 

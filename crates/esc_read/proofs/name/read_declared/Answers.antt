@@ -1,4 +1,4 @@
-use Rattle.std.proofs.Common.{rules, ◌≡◌, []}
+use Rattle.std.proofs.Common.{rules, []}
 use Rattle.esc_read.proofs.Declaring.{Declaring-ends, Declaring-fails, Declaring-starts, Declaring-step}
 use Rattle.esc_read.proofs.name.read_declared.Goals as goal
 

@@ -1,4 +1,4 @@
-use Rattle.std.proofs.Common.{rules, ◌≡◌, sym}
+use Rattle.std.proofs.Common.{rules, sym}
 use Rattle.esc_read.specs.Names.{label}
 use Rattle.esc_read.proofs.Readings.{refused}
 use Rattle.esc_read.proofs.name.read_label.Goals as goal

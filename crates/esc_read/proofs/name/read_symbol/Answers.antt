@@ -1,4 +1,4 @@
-use Rattle.std.proofs.Common.{rules, ◌≡◌}
+use Rattle.std.proofs.Common.{rules}
 use Rattle.esc_read.specs.Names.{symbol}
 use Rattle.esc_read.proofs.Readings.{next, plain, stops}
 use Rattle.esc_read.proofs.name.read_symbol.Goals as goal

@@ -1,8 +1,4 @@
-use Rattle.std.proofs.Common.{rules, ◌≡◌, arith, true, refl, pos, ℤ, ◌-ℤ◌, neg_ℤ, sym, ◌∙◌, ap, w64, to_z}
-use Rattle.std.proofs.lemmas.Bool.Decides.{nat_tests}
-use Rattle.std.specs.Prelude.{nat_le, if◌then◌else◌}
-use Rattle.esc_read.specs.Terms.{numeral_term, largest}
-use Rattle.esc_read.specs.Tokens.{decimal_value, digits_of, numeral, is_negative}
+use Rattle.esc_read.specs.Tokens.{decimal_value, digits_of}
 use Rattle.esc_read.proofs.Numerals.{negated, positive, written}
 use Rattle.esc_read.proofs.numeral.read_numeral.Goals as goal
 

@@ -1,10 +1,9 @@
-use Rattle.std.proofs.Common.{rules, ◌≡◌, map, length, drop, ◌+◌, sym, ◌∙◌, ap, refl}
-use Rattle.esc_read.specs.Reading.{Reads, each}
-use Rattle.esc_read.specs.Terms.{application, calculation, term, term_head}
+use Rattle.std.proofs.Common.{rules, ◌∙◌, ap, refl}
+use Rattle.esc_read.specs.Terms.{term, term_head}
 use Rattle.esc_read.specs.declared.term.TermHead.TheVariants as by
 use Rattle.esc_read.proofs.Slices.{parted}
 use Rattle.esc_read.proofs.TermLemmas.{applied, counts_right, counts_wrong, headed, unheaded}
-use Rattle.esc_read.proofs.Readings.{Going-ends, Going-fails, Going-next, gives, lacking, next, plain, refused, stops}
+use Rattle.esc_read.proofs.Readings.{Going-ends, Going-fails, Going-next, gives, next, refused, stops}
 use Rattle.esc_read.proofs.term.+read_term.Goals as goal
 
 pub read_application-returns-in_err-symbol : goal.read_application-returns-in_err-symbol

@@ -1,4 +1,4 @@
-use Rattle.std.proofs.Common.{rules, ◌≡◌, sym}
+use Rattle.std.proofs.Common.{rules, sym}
 use Rattle.esc_read.specs.Terms.{bare_term}
 use Rattle.esc_read.proofs.Readings.{plain, refused}
 use Rattle.esc_read.proofs.term.read_bare_term.Goals as goal

@@ -1,5 +1,5 @@
-use Rattle.std.proofs.Common.{rules, ◌≡◌, sym, refl}
-use Rattle.esc_read.specs.Terms.{name_term, variable_or_constant}
+use Rattle.std.proofs.Common.{rules, sym, refl}
+use Rattle.esc_read.specs.Terms.{name_term}
 use Rattle.esc_read.proofs.Readings.{gives, next, plain, stops}
 use Rattle.esc_read.proofs.term.read_name_term.Goals as goal
 

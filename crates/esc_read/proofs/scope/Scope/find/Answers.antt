@@ -1,4 +1,4 @@
-use Rattle.std.proofs.Common.{rules, ◌≡◌, sym, ◌∙◌, ap, arith, [], get_or, below_more, length, refl, ◌<◌, reverse}
+use Rattle.std.proofs.Common.{◌≡◌, sym, ◌∙◌, ap, arith, [], below_more, length, reverse}
 use Rattle.std.proofs.lemmas.List.{length-reverse}
 use Rattle.std.specs.Str.{bytes_eq}
 use Rattle.esc_read.proofs.Scopes.{at_reverse, found, not_found}

@@ -1,4 +1,4 @@
-use Rattle.std.proofs.Common.{rules, ◌≡◌, sym, ◌∙◌, ap, Option, Some, None}
+use Rattle.std.proofs.Common.{◌∙◌, ap}
 use Rattle.std.specs.Prelude.{slice_get}
 use Rattle.esc_read.specs.Tokens.{key_of, word_table}
 use Rattle.esc_read.proofs.Words.{says_nothing, says_its_key}
