@@ -1,5 +1,6 @@
 pub mod Deciding
 pub mod Equations
+pub mod FirstNames
 pub mod Goaling
 pub mod ReadingLemmas
 pub mod Singles

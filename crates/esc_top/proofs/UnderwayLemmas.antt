@@ -13,7 +13,8 @@ use Rattle.esc_sexp.specs.declared.sexp.SexpFault.{SexpFault}
 use Rattle.esc_sexp.specs.Unread.{Unread, Forgets, Gives, HasFault, fault_by}
 use Rattle.esc_sexp.proofs.Exact.{takes_bytes}
 use Rattle.esc_report.specs.Text.{report_text}
-use Rattle.esc_top.specs.Ran.{IsReadTo, MayFollow, Ran}
+use Rattle.esc_names.specs.Rows.{HasDistinctRows}
+use Rattle.esc_top.specs.Ran.{IsCounted, IsReadTo, Ran}
 use Rattle.esc_top.specs.Reading.{HasFirst, HasWhole, max_input}
 use Rattle.esc_top.specs.LastLine.{last_line}
 use Rattle.esc_top.specs.Told.{Told, texts, all_valid, is_valid_report}
@@ -24,9 +25,13 @@ use Rattle.esc_top.specs.declared.input.Stop.TheVariants as stop
 use Rattle.esc_top.specs.declared.status.Status.{Status}
 use Rattle.esc_top.specs.declared.status.Status.TheVariants.{Proved, Answered, Syntax, ReadFault, WriteFault, Memory, TooMuch}
 use Rattle.esc_top.proofs.ReadingLemmas.{behind_fed, behind_finished, behind_forgot, behind_found, behind_start, has_first, has_whole, reads_fault, reads_whole}
+use Rattle.esc_top.proofs.FirstNames.{first_distinct}
 use Rattle.esc_top.proofs.ToldLemmas.{AnswersAll-push, all_valid-push, texts-push}
 
 -- ---- expressions
+
+zero_within : 0 ≤ max_input
+zero_within = omega arith
 
 -- nothing was read
 pub underway_start : (left written : Option (List ℕ)) (unread : Unread) (desk : Desk) → unread ≡ record { place = 0; bytes = []; finished = false; fault = None }
@@ -40,6 +45,8 @@ underway_start left written unread desk is names goals clean = record {
   untold = ap (λ (u : Unread). u.fault) is;
   behind = behind_start unread is;
   reached = subst (λ (u : Unread). u.place + length u.bytes ≡ 0) (sym is) refl;
+  within = zero_within;
+  distinct = subst HasDistinctRows (sym names) first_distinct;
   answers = (names, goals);
   clean = clean;
   grown = Grows-start written;
@@ -59,6 +66,8 @@ underway_told {E} {left} {rest} {written} {now} {after} old new desk desk' e h g
       untold = ap (λ (u : Unread). u.fault) gives.rest ∙ h.untold;
       behind = behind_found h.taken h.expressions e old new gives h.behind;
       reached = end.1 ∙ h.reached;
+      within = h.within;
+      distinct = answers.distinct h.distinct;
       answers = AnswersAll-push first_names 0 h.expressions h.told desk.names desk.goals e told desk'.goals h.answers answers.names answers.answers;
       clean = answers.clean ∙ ap (λ (b : Bool). b && is_valid_report answers.report) h.clean ∙ sym (all_valid-push h.told told);
       grown = subst (λ (l : List ℕ). Grows written after l) (sym (texts-push h.told told)) (Grows-then h.grown answers.put.whole);
@@ -77,6 +86,8 @@ broken_told {E} {left} {rest} {written} {now} {after} old new desk desk' e faile
       goals = desk'.goals;
       consumed = h.consumed;
       at_end = λ finished. h.at_end (let same = ap (λ (u : Unread). u.finished) gives.rest in cc);
+      within = h.within;
+      distinct = answers.distinct h.distinct;
       answers = AnswersAll-push first_names 0 h.expressions h.told desk.names desk.goals e told desk'.goals h.answers answers.names answers.answers;
       read = has_first h.taken (h.expressions ++ e ∷ []) new (behind_found h.taken h.expressions e old new gives h.behind);
       front = subst (λ (l : List ℕ). GrowsByFront written after l) (sym (texts-push h.told told)) (GrowsByFront-then h.grown answers.put.front);
@@ -94,6 +105,8 @@ underway_forgot old new desk h forgets = record {
   untold = forgets.fault ∙ h.untold;
   behind = behind_forgot h.taken h.expressions old new forgets h.behind;
   reached = forgets.end ∙ h.reached;
+  within = h.within;
+  distinct = h.distinct;
   answers = h.answers;
   clean = h.clean;
   grown = h.grown;
@@ -112,14 +125,17 @@ underway_flushed h k = record {
   untold = h.untold;
   behind = h.behind;
   reached = h.reached;
+  within = h.within;
+  distinct = h.distinct;
   answers = h.answers;
   clean = h.clean;
   grown = Grows-flushed h.grown k;
 }
 
 pub underway_fed : {left mid rest written now : Option (List ℕ)} (old new : Unread) (desk : Desk) (piece : List ℕ) → Underway left mid written now old desk
-    → Takes mid rest piece → old.finished ≡ false → new ≡ record old { bytes = old.bytes ++ piece } → Underway left rest written now new desk
-underway_fed old new desk piece h takes open_end is = record {
+    → Takes mid rest piece → old.finished ≡ false → new ≡ record old { bytes = old.bytes ++ piece } → old.place + length old.bytes + length piece ≤ max_input
+    → Underway left rest written now new desk
+underway_fed old new desk piece h takes open_end is few = record {
   taken = h.taken ++ piece;
   expressions = h.expressions;
   told = h.told;
@@ -129,6 +145,8 @@ underway_fed old new desk piece h takes open_end is = record {
   behind = behind_fed h.taken piece h.expressions old new open_end is h.behind;
   reached = subst (λ (u : Unread). u.place + length u.bytes ≡ length (h.taken ++ piece)) (sym is)
       (let e = h.reached in omega (arith, length-append old.bytes piece, length-append h.taken piece));
+  within = let e = h.reached in omega (arith, few, length-append h.taken piece);
+  distinct = h.distinct;
   answers = h.answers;
   clean = h.clean;
   grown = h.grown;
@@ -148,6 +166,8 @@ underway_finished old new desk h takes end is = record {
   untold = ap (λ (u : Unread). u.fault) is ∙ h.untold;
   behind = behind_finished h.taken h.expressions old new is h.behind;
   reached = subst (λ (u : Unread). u.place + length u.bytes ≡ length h.taken) (sym is) h.reached;
+  within = h.within;
+  distinct = h.distinct;
   answers = h.answers;
   clean = h.clean;
   grown = h.grown;
@@ -157,8 +177,8 @@ underway_finished old new desk h takes end is = record {
 
 reaches : {left mid rest written now : Option (List ℕ)} (unread : Unread) (desk : Desk) (status : Status) (more : List ℕ) (ended : Bool)
     → (h : Underway left mid written now unread desk) → Takes mid rest more → (IsTrue ended → IsAtEnd rest) → status ≢ WriteFault
-    → IsReadTo status ended (h.taken ++ more) h.expressions h.told → Reached left rest written now status
-reaches unread desk status more ended h takes end runs_on read = record {
+    → IsReadTo status ended (h.taken ++ more) h.expressions h.told → (status ≢ TooMuch → length (h.taken ++ more) ≤ max_input) → Reached left rest written now status
+reaches unread desk status more ended h takes end runs_on read within = record {
   taken = h.taken ++ more;
   ended = ended;
   expressions = h.expressions;
@@ -167,8 +187,10 @@ reaches unread desk status more ended h takes end runs_on read = record {
   goals = desk.goals;
   consumed = Takes-then h.consumed takes;
   at_end = end;
+  distinct = h.distinct;
   answers = h.answers;
   read = read;
+  within = within;
   no_write_fault = runs_on;
   grown = h.grown;
 }
@@ -185,8 +207,10 @@ stands unread desk status h runs_on read = record {
   goals = desk.goals;
   consumed = h.consumed;
   at_end = h.at_end;
+  distinct = h.distinct;
   answers = h.answers;
   read = read;
+  within = λ other. h.within;
   no_write_fault = runs_on;
   grown = h.grown;
 }
@@ -202,23 +226,26 @@ reached_memory unread desk h = stands unread desk Memory h (λ e. cc) (has_first
 
 -- the bytes of a piece were taken, and the reader did not get them
 pub reached_unfed : {left mid rest written now : Option (List ℕ)} (unread : Unread) (desk : Desk) (piece : List ℕ) → unread.finished ≡ false → Underway left mid written now unread desk
-    → Takes mid rest piece → Reached left rest written now Memory
-reached_unfed unread desk piece open_end h takes =
+    → Takes mid rest piece → unread.place + length unread.bytes + length piece ≤ max_input → Reached left rest written now Memory
+reached_unfed unread desk piece open_end h takes few =
     reaches unread desk Memory piece false h takes (λ told. absurd cc) (λ e. cc)
     (λ more follows. subst (λ (l : List ℕ). HasFirst l h.expressions) (sym (append_assoc h.taken piece more))
     (has_first h.taken h.expressions unread h.behind (piece ++ more) (λ told. absurd cc)))
+    (λ other. let e = h.reached in omega (arith, few, length-append h.taken piece))
 
 pub reached_read_fault : {left mid rest written now : Option (List ℕ)} (unread : Unread) (desk : Desk) → unread.finished ≡ false → Underway left mid written now unread desk → IsHungry unread
     → Takes mid rest [] → Reached left rest written now ReadFault
 reached_read_fault unread desk open_end h empty takes =
     reaches unread desk ReadFault [] false h takes (λ told. absurd cc) (λ e. cc)
     (subst (λ (l : List ℕ). HasWhole l h.expressions) (sym (append-nil h.taken)) (has_whole h.taken h.expressions unread open_end empty h.behind))
+    (λ other. subst (λ (l : List ℕ). length l ≤ max_input) (sym (append-nil h.taken)) h.within)
 
 pub reached_too_much : {left mid rest written now : Option (List ℕ)} (unread : Unread) (desk : Desk) (byte : ℕ) → unread.finished ≡ false → Underway left mid written now unread desk → IsHungry unread
     → Takes mid rest (byte ∷ []) → unread.place + length unread.bytes ≡ max_input → Reached left rest written now TooMuch
 reached_too_much unread desk byte open_end h empty takes full =
     reaches unread desk TooMuch (byte ∷ []) false h takes (λ told. absurd cc) (λ e. cc)
     (record { first = h.taken; byte = byte; taken_is = refl; long = sym h.reached ∙ full; held = has_whole h.taken h.expressions unread open_end empty h.behind })
+    (λ other. absurd (other refl))
 
 pub reached_proved : {left rest written now : Option (List ℕ)} (unread : Unread) (desk : Desk) → unread.finished ≡ true → Underway left rest written now unread desk → IsHungry unread
     → desk.all_valid ≡ true → Reached left rest written now Proved
@@ -241,8 +268,10 @@ reached_at_once left written = record {
   goals = 0;
   consumed = Takes-start left;
   at_end = λ told. absurd cc;
+  distinct = first_distinct;
   answers = (refl, refl);
   read = λ more follows. (0, more, (refl, refl));
+  within = λ other. zero_within;
   no_write_fault = λ e. cc;
   grown = Grows-start written;
 }
@@ -258,8 +287,10 @@ broken_flush unread desk h k = record {
   goals = desk.goals;
   consumed = h.consumed;
   at_end = h.at_end;
+  distinct = h.distinct;
   answers = h.answers;
   read = has_first h.taken h.expressions unread h.behind;
+  within = h.within;
   front = GrowsByFront-whole (Grows-flushed h.grown k);
 }
 
@@ -278,7 +309,7 @@ pub stops_ended : (E : Type 0) {left rest written now : Option (List ℕ)} (unre
     → Stops {E = E} left rest written now unread desk (Ok s) → Reached left rest written now status
 stops_ended E {left} {rest} {written} {now} unread desk s status is h = subst (λ (x : Stop). Stops {E = E} left rest written now unread desk (Ok x)) is h
 
-pub ended_count : (E : Type 0) (s : Stop) (status : Status) (before now : ℕ) → s ≡ stop.Ended status → StopsByCount {E = E} (Ok s) before now → EndsByCount {E = Unit {0}} (Ok status) before now
+pub ended_count : (E : Type 0) (s : Stop) (status : Status) (before now : ℕ) → s ≡ stop.Ended status → StopsByCount {E = E} (Ok s) before now → IsCounted status before now
 ended_count E s status before now is h = subst (λ (x : Stop). StopsByCount {E = E} (Ok x) before now) is h
 
 pub stops_count : {E : Type 0} (r : Result Stop E) (n : ℕ) → IsErr r → StopsByCount r n n
@@ -300,20 +331,15 @@ reached_at E {left} {rest} {written} {now} unread desk stop.Hungry told h = by_v
     by_valid false is = subst (λ (c : Bool). Reached left rest written now (if c then Proved else Answered)) (sym is) (reached_answered unread desk (told refl) h.0 h.1 is)
 
 pub count_at : (E F : Type 0) (s : Stop) (all_valid : Bool) (before now : ℕ) → StopsByCount {E = E} (Ok s) before now → EndsByCount {E = F} (Ok (status_at s all_valid)) before now
-count_at E F (stop.Ended ReadFault) all_valid before now h = h
-count_at E F (stop.Ended Proved) all_valid before now h = h
-count_at E F (stop.Ended Answered) all_valid before now h = h
-count_at E F (stop.Ended (Syntax f)) all_valid before now h = h
-count_at E F (stop.Ended WriteFault) all_valid before now h = h
-count_at E F (stop.Ended Memory) all_valid before now h = h
-count_at E F (stop.Ended TooMuch) all_valid before now h = h
+count_at E F (stop.Ended status) all_valid before now h = h
 count_at E F stop.Hungry true before now h = h
 count_at E F stop.Hungry false before now h = h
 
 -- ---- the last line
 
-pub ran_whole : {left rest written now after : Option (List ℕ)} {E : Type 0} (status : Status) → Reached left rest written now status → Puts {T = Unit {0}} {E = E} now after (Ok tt) (last_line status) → Ran left rest written after status
-ran_whole status h put = record {
+pub ran_whole : {left rest written now after : Option (List ℕ)} {E : Type 0} (m n : ℕ) (status : Status) → Reached left rest written now status → IsCounted status m n
+    → Puts {T = Unit {0}} {E = E} now after (Ok tt) (last_line status) → Ran left rest written after m n status
+ran_whole m n status h counted put = record {
   taken = h.taken;
   ended = h.ended;
   expressions = h.expressions;
@@ -323,15 +349,18 @@ ran_whole status h put = record {
   reached = status;
   consumed = h.consumed;
   at_end = h.at_end;
+  distinct = h.distinct;
   answers = h.answers;
   read = h.read;
+  within = h.within;
+  counted = counted;
   whole_text = λ runs_on. (refl, Grows-then h.grown put.whole);
   front = GrowsByFront-then h.grown put.front;
 }
 
-pub ran_short : {left rest written now after : Option (List ℕ)} {E : Type 0} (status : Status) (failed : E) → Reached left rest written now status
-    → Puts {T = Unit {0}} {E = E} now after (Err failed) (last_line status) → Ran left rest written after WriteFault
-ran_short status failed h put = record {
+pub ran_short : {left rest written now after : Option (List ℕ)} {E : Type 0} (m n : ℕ) (status : Status) (failed : E) → Reached left rest written now status → IsCounted status m n
+    → Puts {T = Unit {0}} {E = E} now after (Err failed) (last_line status) → Ran left rest written after m n WriteFault
+ran_short m n status failed h counted put = record {
   taken = h.taken;
   ended = h.ended;
   expressions = h.expressions;
@@ -341,14 +370,17 @@ ran_short status failed h put = record {
   reached = status;
   consumed = h.consumed;
   at_end = h.at_end;
+  distinct = h.distinct;
   answers = h.answers;
   read = h.read;
+  within = h.within;
+  counted = counted;
   whole_text = λ runs_on. absurd (runs_on refl);
   front = GrowsByFront-then h.grown put.front;
 }
 
-pub ran_broken : {left rest written now : Option (List ℕ)} → Broken left rest written now → Ran left rest written now WriteFault
-ran_broken {left} {rest} {written} {now} h = record {
+pub ran_broken : {left rest written now : Option (List ℕ)} (m n : ℕ) → Broken left rest written now → n ≡ m → Ran left rest written now m n WriteFault
+ran_broken {left} {rest} {written} {now} m n h same = record {
   taken = h.taken;
   ended = h.ended;
   expressions = h.expressions;
@@ -358,8 +390,11 @@ ran_broken {left} {rest} {written} {now} h = record {
   reached = WriteFault;
   consumed = h.consumed;
   at_end = h.at_end;
+  distinct = h.distinct;
   answers = h.answers;
   read = h.read;
+  within = λ other. h.within;
+  counted = same;
   whole_text = λ runs_on. absurd (runs_on refl);
   front = subst (λ (l : List ℕ). GrowsByFront written now l) (sym (append-nil (texts h.told))) h.front;
 }

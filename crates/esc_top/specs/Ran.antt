@@ -1,13 +1,15 @@
 -- What a run reads and writes, and how it ends, where source and sink tell their bytes.
-use Rattle.std.specs.Prelude.{◌≡◌, ◌≢◌, ℕ, Bool, true, false, not, IsTrue, List, [], ◌++◌, codes, Option}
+use Rattle.std.specs.Prelude.{◌≡◌, ◌≢◌, ◌≤◌, ℕ, Bool, true, false, not, IsTrue, List, [], ◌++◌, length, Option}
 use Rattle.std.specs.Io.KnownBytes.{IsAtEnd}
+use Rattle.esc_io.specs.Faults.{Rose}
 use Rattle.esc_io.specs.Putting.{Grows, GrowsByFront}
 use Rattle.esc_io.specs.Taking.{Takes}
 use Rattle.esc_sexp.specs.declared.sexp.Sexp.{Sexp}
 use Rattle.esc_sexp.specs.Grammar.{Reads, whole, broken}
 use Rattle.esc_top.specs.LastLine.{last_line}
 use Rattle.esc_names.specs.Numbering.{first_names}
-use Rattle.esc_top.specs.Reading.{HasFirst, HasTooMuch, HasWhole}
+use Rattle.esc_names.specs.Rows.{HasDistinctRows}
+use Rattle.esc_top.specs.Reading.{HasFirst, HasTooMuch, HasWhole, max_input}
 use Rattle.esc_top.specs.Told.{Told, AnswersAll, all_valid, texts}
 use Rattle.esc_top.specs.declared.status.Status.{Status}
 use Rattle.esc_top.specs.declared.status.Status.TheVariants.{Proved, Answered, Syntax, ReadFault, WriteFault, Memory, TooMuch}
@@ -26,9 +28,14 @@ IsReadTo WriteFault ended taken es told = (more : List ℕ) → MayFollow ended 
 IsReadTo Memory ended taken es told = (more : List ℕ) → MayFollow ended more → HasFirst (taken ++ more) es
 IsReadTo TooMuch ended taken es told = HasTooMuch taken es
 
+-- the source's count of faults rose where the status says so, and else stands
+abbrev pub IsCounted : Status → ℕ → ℕ → Type 0
+IsCounted ReadFault before after = Rose before after
+IsCounted status before after = after ≡ before
+
 -- The bytes that were taken begin with expressions that are answered in order; the texts of the answers and the last
 -- line are written. With a write fault it is a front of what some status, reached before the fault, would have written.
-pub record Ran (left rest written now : Option (List ℕ)) (result : Status) : Type 0 where
+pub record Ran (left rest written now : Option (List ℕ)) (before after : ℕ) (result : Status) : Type 0 where
   pub taken : List ℕ
   pub ended : Bool
   pub expressions : List Sexp
@@ -38,7 +45,11 @@ pub record Ran (left rest written now : Option (List ℕ)) (result : Status) : T
   pub reached : Status
   pub consumed : Takes left rest taken
   pub at_end : IsTrue ended → IsAtEnd rest
+  -- no name has two numbers
+  pub distinct : HasDistinctRows names
   pub answers : AnswersAll first_names 0 expressions told names goals
   pub read : IsReadTo reached ended taken expressions told
+  pub within : reached ≢ TooMuch → length taken ≤ max_input
+  pub counted : IsCounted reached before after
   pub whole_text : result ≢ WriteFault → (result ≡ reached) × Grows written now (texts told ++ last_line reached)
   pub front : GrowsByFront written now (texts told ++ last_line reached)

@@ -11,9 +11,10 @@ use Rattle.esc_sexp.specs.Unread.{ReadsAlike, Unread}
 use Rattle.esc_report.specs.declared.report.Report.{Report}
 use Rattle.esc_report.specs.Text.{report_text}
 use Rattle.esc_top.specs.Answers.{Answers}
-use Rattle.esc_top.specs.Ran.{IsReadTo}
+use Rattle.esc_top.specs.Ran.{IsCounted, IsReadTo}
 use Rattle.esc_names.specs.Numbering.{first_names}
-use Rattle.esc_top.specs.Reading.{BeginsAs}
+use Rattle.esc_names.specs.Rows.{HasDistinctRows}
+use Rattle.esc_top.specs.Reading.{BeginsAs, max_input}
 use Rattle.esc_top.specs.Told.{Told, AnswersAll, Grown, all_valid, is_valid_report, texts}
 use Rattle.esc_top.specs.declared.desk.Desk.{Desk}
 use Rattle.esc_top.specs.declared.input.Feeding.{Feeding}
@@ -21,7 +22,7 @@ use Rattle.esc_top.specs.declared.input.Feeding.TheVariants as feeding
 use Rattle.esc_top.specs.declared.input.Stop.{Stop}
 use Rattle.esc_top.specs.declared.input.Stop.TheVariants as stop
 use Rattle.esc_top.specs.declared.status.Status.{Status}
-use Rattle.esc_top.specs.declared.status.Status.TheVariants.{Proved, Answered, ReadFault, WriteFault}
+use Rattle.esc_top.specs.declared.status.Status.TheVariants.{Proved, Answered, WriteFault, TooMuch}
 
 -- what the reader has before it says nothing against these: an end of the text that it has been told
 abbrev pub Agrees : Bool → Bool → List ℕ → Type 0
@@ -43,6 +44,8 @@ pub record Underway (left rest written now : Option (List ℕ)) (unread : Unread
   pub untold : unread.fault ≡ None
   pub behind : GoesOnBehind taken expressions unread
   pub reached : unread.place + length unread.bytes ≡ length taken
+  pub within : length taken ≤ max_input
+  pub distinct : HasDistinctRows desk.names
   pub answers : AnswersAll first_names 0 expressions told desk.names desk.goals
   pub clean : desk.all_valid ≡ all_valid told
   pub grown : Grows written now (texts told)
@@ -63,8 +66,10 @@ pub record Reached (left rest written now : Option (List ℕ)) (status : Status)
   pub goals : ℕ
   pub consumed : Takes left rest taken
   pub at_end : IsTrue ended → IsAtEnd rest
+  pub distinct : HasDistinctRows names
   pub answers : AnswersAll first_names 0 expressions told names goals
   pub read : IsReadTo status ended taken expressions told
+  pub within : status ≢ TooMuch → length taken ≤ max_input
   pub no_write_fault : status ≢ WriteFault
   pub grown : Grows written now (texts told)
 
@@ -78,8 +83,10 @@ pub record Broken (left rest written now : Option (List ℕ)) : Type 0 where
   pub goals : ℕ
   pub consumed : Takes left rest taken
   pub at_end : IsTrue ended → IsAtEnd rest
+  pub distinct : HasDistinctRows names
   pub answers : AnswersAll first_names 0 expressions told names goals
   pub read : IsReadTo WriteFault ended taken expressions told
+  pub within : length taken ≤ max_input
   pub front : GrowsByFront written now (texts told)
 
 abbrev pub Came : {E : Type 0} → Option (List ℕ) → Option (List ℕ) → Option (List ℕ) → Option (List ℕ) → Result Status E → Type 0
@@ -96,6 +103,7 @@ Stops left rest written now unread desk (Err e) = Broken left rest written now
 pub record AnswersOne {E : Type 0} (old new : Desk) (e : Sexp) (written now : Option (List ℕ)) (result : Result (Unit {0}) E) : Type 0 where
   pub report : Report
   pub names : Grown old.names new.names
+  pub distinct : HasDistinctRows old.names → HasDistinctRows new.names
   pub answers : Answers new.names old.goals e report new.goals
   pub clean : new.all_valid ≡ (old.all_valid && is_valid_report report)
   pub few : new.goals ≤ old.goals + 1
@@ -108,7 +116,7 @@ Feeds left rest old new room (feeding.Fed count) =
 Feeds left rest old new room feeding.AtEnd = Takes left rest [] × IsAtEnd rest × (new ≡ old)
 Feeds left rest old new room feeding.ReadFault = Takes left rest [] × (new ≡ old)
 Feeds left rest old new room feeding.TooMuch = (byte : ℕ) × Takes left rest (byte ∷ []) × (room ≡ 0) × (new ≡ old)
-Feeds left rest old new room feeding.Memory = (bytes : List ℕ) × Takes left rest bytes × (new ≡ old)
+Feeds left rest old new room feeding.Memory = (bytes : List ℕ) × Takes left rest bytes × (length bytes ≤ room) × (new ≡ old)
 
 -- the source's count of faults stands, and rises where a read failed
 abbrev pub IsToldByCount : Feeding → ℕ → ℕ → Type 0
@@ -116,12 +124,13 @@ IsToldByCount feeding.ReadFault before now = Rose before now
 IsToldByCount told before now = now ≡ before
 
 abbrev pub EndsByCount : {E : Type 0} → Result Status E → ℕ → ℕ → Type 0
-EndsByCount (Ok ReadFault) before now = Rose before now
-EndsByCount result before now = now ≡ before
+EndsByCount (Ok status) before now = IsCounted status before now
+EndsByCount (Err e) before now = now ≡ before
 
 abbrev pub StopsByCount : {E : Type 0} → Result Stop E → ℕ → ℕ → Type 0
-StopsByCount (Ok (stop.Ended status)) before now = EndsByCount {E = Unit {0}} (Ok status) before now
-StopsByCount result before now = now ≡ before
+StopsByCount (Ok (stop.Ended status)) before now = IsCounted status before now
+StopsByCount (Ok stop.Hungry) before now = now ≡ before
+StopsByCount (Err e) before now = now ≡ before
 
 -- the status of a run that stopped so: at the end of the input it tells whether all is valid
 abbrev pub status_at : Stop → Bool → Status

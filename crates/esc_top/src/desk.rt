@@ -6,6 +6,7 @@ ghost use Rattle.esc_top.specs.Answers.{AreNames, Answers, Reports};
 ghost use Rattle.esc_top.specs.Goals.{IsEquation, IsNamed, place_of};
 ghost use Rattle.esc_sexp.specs.declared.sexp.Sexp.{Sexp};
 ghost use Rattle.esc_names.specs.Numbering.{first_names};
+ghost use Rattle.esc_names.specs.Rows.{HasDistinctRows};
 ghost use Rattle.esc_top.specs.Told.{Grown, is_valid_report};
 ghost use Rattle.esc_top.specs.Underway.{AnswersOne};
 
@@ -72,6 +73,7 @@ impl Desk {
     fn term_of(&mut self, text: &[u8]) -> Result<Term, AllocError>
         ensures named { IfOk result (λ t. IsNamed self.new.names text.now t) }
         ensures names { Grown self.old.names self.new.names }
+        ensures distinct { HasDistinctRows self.old.names → HasDistinctRows self.new.names }
         ensures goals { self.new.goals ≡ self.old.goals }
         ensures clean { self.new.all_valid ≡ self.old.all_valid }
     {
@@ -84,6 +86,7 @@ impl Desk {
         ensures left { IfOk result (λ sides. IsNamed self.new.names left.now sides.0) }
         ensures right { IfOk result (λ sides. IsNamed self.new.names right.now sides.1) }
         ensures names { Grown self.old.names self.new.names }
+        ensures distinct { HasDistinctRows self.old.names → HasDistinctRows self.new.names }
         ensures goals { self.new.goals ≡ self.old.goals }
         ensures clean { self.new.all_valid ≡ self.old.all_valid }
     {
@@ -97,6 +100,7 @@ impl Desk {
         requires few { self.old.goals < 2 ^ 63 }
         ensures answers { (e : Sexp) → IsEquation e left.now right.now → place ≡ place_of e → Answers self.new.names self.old.goals e result self.new.goals }
         ensures names { Grown self.old.names self.new.names }
+        ensures distinct { HasDistinctRows self.old.names → HasDistinctRows self.new.names }
         ensures counted { self.new.goals ≤ self.old.goals + 1 }
         ensures clean { self.new.all_valid ≡ self.old.all_valid }
     {
@@ -118,6 +122,7 @@ impl Desk {
         requires few { self.old.goals < 2 ^ 63 }
         ensures answers { Answers self.new.names self.old.goals sexp.now result self.new.goals }
         ensures names { Grown self.old.names self.new.names }
+        ensures distinct { HasDistinctRows self.old.names → HasDistinctRows self.new.names }
         ensures counted { self.new.goals ≤ self.old.goals + 1 }
         ensures clean { self.new.all_valid ≡ self.old.all_valid }
     {

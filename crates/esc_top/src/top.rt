@@ -20,10 +20,11 @@ fn finish<K: Sink>(status: Status, sink: &mut K) -> Result<(), Failed>
     sink.flush()
 }
 
-/// Reads commands from the source up to its end, and writes the answer to each to the sink before more is read. The
-/// words are those of the command line, of which the first is the program's name.
+/// Reads commands from the source up to its end, and writes the answers to the sink in order. The words are those of the
+/// command line, of which the first is the program's name.
 ///
-/// Where source or sink do not tell their bytes, only what is said of their faults holds of them.
+/// Each answer is written and flushed before more is read, and the sink is flushed at the end; no clause says so. Where
+/// source or sink do not tell their bytes, only what is said of their faults holds of them.
 pub fn run<S: Source, K: Sink>(
     alloc: Global,
     _words: &[String],
@@ -31,9 +32,10 @@ pub fn run<S: Source, K: Sink>(
     sink: &mut K,
 ) -> Status
     // Each goal is answered in order.
-    ensures ran { Ran (S.left source.old) (S.left source.new) (K.written sink.old) (K.written sink.new) result }
+    ensures ran { Ran (S.left source.old) (S.left source.new) (K.written sink.old) (K.written sink.new) (S.faults source.old) (S.faults source.new) result }
 
-    // A fault is told only where source or sink had one, and each of theirs is told.
+    // A fault is told only where source or sink had one. A fault of the sink is always told, and one of the source
+    // unless the sink fails behind it.
     ensures reads { result ≡ Status.ReadFault → Rose (S.faults source.old) (S.faults source.new) }
     ensures no_read_fault { result ≢ Status.ReadFault → result ≢ Status.WriteFault → S.faults source.new ≡ S.faults source.old }
     ensures writes { result ≡ Status.WriteFault → Rose (K.faults sink.old) (K.faults sink.new) }

@@ -1,7 +1,8 @@
 use Rattle.std.proofs.Common.{◌≡◌, ◌∙◌, ◌+◌, ◌++◌, ℕ, List, Ok, ap, arith, false, length, length-append, refl, subst, sym, true}
 use Rattle.esc_io.specs.declared.faults.Failed.{Failed}
 use Rattle.esc_sexp.specs.Unread.{Unread}
-use Rattle.esc_top.specs.Underway.{EndsByCount, StopsByCount}
+use Rattle.esc_top.specs.Ran.{IsCounted}
+use Rattle.esc_top.specs.Underway.{StopsByCount}
 use Rattle.esc_top.proofs.UnderwayLemmas.{broken_flush, ended_count, reached_read_fault, reached_too_much, reached_unfed, stops_broken, stops_ended, stops_hungry, underway_fed, underway_finished, underway_flushed}
 use Rattle.esc_top.proofs.input.answer_pieces.Goals as goal
 
@@ -13,7 +14,7 @@ returns-in-Ended-clause-told g c = λ left written h.
 pub returns-in-Ended-clause-reads : goal.returns-in-Ended-clause-reads
 returns-in-Ended-clause-reads g c =
     let count = g.S.Source.faults c.pieces.source in
-    subst (λ (n : ℕ). EndsByCount {E = Unit {0}} (Ok c.in-Ended.status) n count) c.pieces.invariant.reads
+    subst (λ (n : ℕ). IsCounted c.in-Ended.status n count) c.pieces.invariant.reads
     (ended_count Failed c.in_ok-status.field-0 c.in-Ended.status count count c.in-Ended.is (c.in_ok-status.ensures.reads count))
 
 pub returns-in_err-flush-clause-told : goal.returns-in_err-flush-clause-told
@@ -34,7 +35,7 @@ pieces-preserved g c =
           let now = stops_hungry Failed c.answer_whole.new.reader c.answer_whole.new.desk c.in_ok-status.field-0 c.in_default.is
           (c.in_ok-status.ensures.told left (g.S.Source.left c.pieces.source) written (c.pieces.invariant.told left written h)) in
           underway_fed c.answer_whole.new.reader c.feed_piece.new.reader c.answer_whole.new.desk fed.0
-          (underway_flushed now.0 c.in_ok-flush.ensures.bytes) fed.1 open_end fed.5;
+          (underway_flushed now.0 c.in_ok-flush.ensures.bytes) fed.1 open_end fed.5 (omega (arith, fed.2, fed.4, c.answer_whole.ensures.end, c.pieces.invariant.room));
       few = omega (arith, place, c.answer_whole.ensures.few);
       open_end = ap (λ (u : Unread). u.finished) fed.5 ∙ open_end;
       room = omega (arith, place, ap length bytes, length-append c.answer_whole.new.reader.bytes fed.0, fed.2, fed.4, c.answer_whole.ensures.end, c.pieces.invariant.room);
@@ -63,7 +64,7 @@ returns-in-Memory-clause-told g c = λ left written h.
     let now = stops_hungry Failed c.answer_whole.new.reader c.answer_whole.new.desk c.in_ok-status.field-0 c.in_default.is
     (c.in_ok-status.ensures.told left (g.S.Source.left c.pieces.source) written (c.pieces.invariant.told left written h)) in
     reached_unfed c.answer_whole.new.reader c.answer_whole.new.desk c.in-Memory.ensures.fed.0 (c.answer_whole.ensures.finished ∙ c.pieces.invariant.open_end)
-    (underway_flushed now.0 c.in_ok-flush.ensures.bytes) c.in-Memory.ensures.fed.1
+    (underway_flushed now.0 c.in_ok-flush.ensures.bytes) c.in-Memory.ensures.fed.1 (omega (arith, c.in-Memory.ensures.fed.2, c.answer_whole.ensures.end, c.pieces.invariant.room))
 
 pub returns-clause-told : goal.returns-clause-told
 returns-clause-told g c = λ left written h.
