@@ -1,5 +1,5 @@
 -- Lists of nodes by their numbers: one node fewer, one node more.
-use Rattle.std.proofs.Common.{◌≡◌, ◌≢◌, ℕ, ◌+◌, ◌-◌, ◌<◌, ◌≤◌, List, ◌⊎◌, inl, inr, length, get_or, refl, sym, ap, subst, ◌∙◌, arith}
+use Rattle.std.proofs.Common.{◌≡◌, ◌≢◌, ℕ, ◌+◌, ◌-◌, ◌<◌, ◌≤◌, List, ◌⊎◌, inl, inr, length, get_or, sym, ap, subst, ◌∙◌, arith}
 use Rattle.std.specs.List.{Contains, remove, insert}
 use Rattle.std.proofs.lemmas.Bool.{cases_lt, cases_order}
 use Rattle.std.proofs.lemmas.List.{get_or_default}
@@ -96,9 +96,10 @@ pub IsOrdered-removed : (number : ℕ → ℕ) (Has : ℕ → Type 0) (order : L
     at < length order → get_or order at 0 ≡ x → IsOrdered number (λ n. Has n × (n ≢ x)) (remove order at)
 IsOrdered-removed number Has order at x is l found = record {
   there = λ i il.
-      let k = kept order at i l il in
-      (subst Has (sym k.is) (is.there k.from k.there),
-      λ e. apart number Has order is k.from at k.there l k.other (sym k.is ∙ (e ∙ sym found)));
+      let k = kept order at i l il in (
+        subst Has (sym k.is) (is.there k.from k.there),
+        λ e. apart number Has order is k.from at k.there l k.other (sym k.is ∙ (e ∙ sym found)),
+      );
   all = λ n h.
       let k = contains_at order n (is.all n h.0) in
       removed_has order at n k.0 l k.1 k.2 (λ e. h.1 (sym k.2 ∙ (ap (λ j. get_or order j 0) e ∙ found)));

@@ -1,11 +1,11 @@
 -- How the order of the nodes goes on where the classes change.
-use Rattle.std.proofs.Common.{◌≡◌, ◌≢◌, ℕ, ◌+◌, ◌-◌, ◌<◌, ◌≤◌, List, [], ◌∷◌, ◌++◌, ◌⊎◌, inl, inr, length, get_or, set, take, All, refl, sym, ap, subst, ◌∙◌, arith, get_or-set_same, get_or-set_other}
-use Rattle.std.specs.List.{Contains, remove, insert, between}
+use Rattle.std.proofs.Common.{◌≡◌, ◌≢◌, ℕ, ◌+◌, ◌-◌, ◌<◌, ◌≤◌, List, [], ◌∷◌, ◌++◌, ◌⊎◌, inl, inr, length, get_or, set, take, All, sym, ap, subst, ◌∙◌, arith, get_or-set_same, get_or-set_other}
+use Rattle.std.specs.List.{remove, insert, between}
 use Rattle.std.proofs.lemmas.Bool.{cases_lt, cases_order}
 use Rattle.std.proofs.lemmas.List.{length-set, length-take, get_or-take, length_push, get_or_append_left, get_or_at}
 use Rattle.std.proofs.lemmas.List.Elements.{All-from_get_or}
 use Rattle.std.proofs.lemmas.List.Edits.{length-between, get_or-between}
-use Rattle.esc_classes.specs.Classes.{SameClass, IsClassOf}
+use Rattle.esc_classes.specs.Classes.{IsClassOf}
 use Rattle.esc_classes.specs.ClassesInside.{IsOrdered, IsInOrder}
 use Rattle.esc_classes.proofs.Ordering.{contains_at, at_contains, IsOrdered-has, IsOrdered-number, IsOrdered-removed, IsOrdered-inserted}
 
@@ -21,12 +21,14 @@ Sound-popped numbers order last place is count l found =
     let Fewer : ℕ → Type 0 = λ n. (n < length numbers) × (n ≢ last) in
     let shorter : length (take last numbers) ≡ last = omega (arith, length-take last numbers, count) in
     let removed : IsOrdered number Fewer (remove order place) = IsOrdered-removed number (λ n. n < length numbers) order place last is.ordered l found in
-    record { ordered = IsOrdered-has (λ n. get_or (take last numbers) n 0) Fewer (remove order place)
-    (IsOrdered-number number Fewer (remove order place) removed (λ n. get_or (take last numbers) n 0)
-    (λ n h. get_or-take last numbers n 0 (omega (arith, h.0, h.1, count))))
-    (λ n. n < length (take last numbers))
-    (λ n h. omega (arith, h.0, h.1, count, shorter))
-    (λ n h. (omega (arith, h, shorter, count), λ e. omega (arith, h, shorter, e))) }
+    record {
+      ordered = IsOrdered-has (λ n. get_or (take last numbers) n 0) Fewer (remove order place)
+          (IsOrdered-number number Fewer (remove order place) removed (λ n. get_or (take last numbers) n 0)
+          (λ n h. get_or-take last numbers n 0 (omega (arith, h.0, h.1, count))))
+          (λ n. n < length (take last numbers))
+          (λ n h. omega (arith, h.0, h.1, count, shorter))
+          (λ n h. (omega (arith, h, shorter, count), λ e. omega (arith, h, shorter, e)));
+    }
 
 -- ---- a node comes
 
@@ -44,14 +46,16 @@ Sound-pushed numbers order number into is l before at =
     IsOrdered-inserted more (λ n. n < length numbers) order into (length numbers) there (λ h. omega (arith, h)) l
     (λ k h. rw (new, old _ (is.ordered.there k (omega (arith, h, l)))) (before k h))
     (λ h. rw (new, old _ (is.ordered.there into h)) (at h)) in
-    record { ordered = IsOrdered-has more (λ n. (n < length numbers) ⊎ (n ≡ length numbers)) (insert order into (length numbers)) inserted
-    (λ n. n < length (numbers ++ (number ∷ [])))
-    (λ n h. elim h [ | inl less ↦ omega (arith, less, length_push numbers number) | inr last ↦ omega (arith, last, length_push numbers number) ])
-    (λ n h. elim (cases_order n (length numbers)) [
-      | inl eq ↦ inr eq
-      | inr (inl lt) ↦ inl lt
-      | inr (inr gt) ↦ absurd (omega (arith, gt, h, length_push numbers number))
-    ]) }
+    record {
+      ordered = IsOrdered-has more (λ n. (n < length numbers) ⊎ (n ≡ length numbers)) (insert order into (length numbers)) inserted
+          (λ n. n < length (numbers ++ (number ∷ [])))
+          (λ n h. elim h [ inl less ↦ omega (arith, less, length_push numbers number) | inr last ↦ omega (arith, last, length_push numbers number) ])
+          (λ n h. elim (cases_order n (length numbers)) [
+            | inl eq ↦ inr eq
+            | inr (inl lt) ↦ inl lt
+            | inr (inr gt) ↦ absurd (omega (arith, gt, h, length_push numbers number))
+          ]);
+    }
 
 -- ---- a node goes into another class
 
@@ -79,14 +83,16 @@ module _ (numbers order : List ℕ) (node number from : ℕ) (is : IsInOrder num
       let inserted : IsOrdered changed (λ n. Fewer n ⊎ (n ≡ node)) (insert (remove order from) into node) =
       IsOrdered-inserted changed Fewer (remove order from) into node others (λ h. h.1 (λ k. node)) il
       (λ k h. rw new (before k h)) (λ h. rw new (at h)) in
-      record { ordered = IsOrdered-has changed (λ n. Fewer n ⊎ (n ≡ node)) (insert (remove order from) into node) inserted
-      (λ n. n < length (set numbers node number))
-      (λ n h. elim h [ | inl less ↦ omega (arith, less.0, length-set numbers node number) | inr e ↦ omega (arith, e, there, length-set numbers node number) ])
-      (λ n h. elim (cases_order n node) [
-        | inl eq ↦ inr eq
-        | inr (inl lt) ↦ inl (omega (arith, h, length-set numbers node number), λ e. omega (arith, e, lt))
-        | inr (inr gt) ↦ inl (omega (arith, h, length-set numbers node number), λ e. omega (arith, e, gt))
-      ]) }
+      record {
+        ordered = IsOrdered-has changed (λ n. Fewer n ⊎ (n ≡ node)) (insert (remove order from) into node) inserted
+            (λ n. n < length (set numbers node number))
+            (λ n h. elim h [ inl less ↦ omega (arith, less.0, length-set numbers node number) | inr e ↦ omega (arith, e, there, length-set numbers node number) ])
+            (λ n h. elim (cases_order n node) [
+              | inl eq ↦ inr eq
+              | inr (inl lt) ↦ inl (omega (arith, h, length-set numbers node number), λ e. omega (arith, e, lt))
+              | inr (inr gt) ↦ inl (omega (arith, h, length-set numbers node number), λ e. omega (arith, e, gt))
+            ]);
+      }
 
 -- ---- the members of a class
 
@@ -99,7 +105,7 @@ module _ (numbers order : List ℕ) (node start end : ℕ) (is : IsInOrder numbe
   -- the places of the nodes of the class
   within : (k : ℕ) → k < length order → get_or numbers (get_or order k 0) 0 ≡ get_or numbers node 0 → (start ≤ k) × (k < end)
   within k kl same = (
-    elim (cases_lt k start) [ | inl lt ↦ absurd (omega (arith, below k lt, same)) | inr le ↦ le ],
+    elim (cases_lt k start) [ inl lt ↦ absurd (omega (arith, below k lt, same)) | inr le ↦ le ],
     elim (cases_order end k) [
       | inl eq ↦ absurd (omega (arith, subst (λ j. get_or numbers node 0 < get_or numbers (get_or order j 0) 0) eq (beyond (omega (arith, eq, kl))), same))
       | inr (inl lt) ↦ absurd (omega (arith, beyond (omega (arith, lt, kl)), is.ordered.sorted end k lt kl, same))
@@ -132,9 +138,10 @@ module _ (numbers order : List ℕ) (node start end : ℕ) (is : IsInOrder numbe
       λ c.
           let k = contains_at (between start end order) n c in
           let r = read k.0 k.1 in
-          let at : get_or order (start + k.0) 0 ≡ n = sym r.1 ∙ k.2 in
-          (subst (λ m. m < length numbers) at (is.ordered.there (start + k.0) (omega (arith, r.0, end_in))),
-          subst (λ m. get_or numbers m 0 ≡ get_or numbers node 0) at (same_at (start + k.0) (omega arith) r.0)),
+          let at : get_or order (start + k.0) 0 ≡ n = sym r.1 ∙ k.2 in (
+            subst (λ m. m < length numbers) at (is.ordered.there (start + k.0) (omega (arith, r.0, end_in))),
+            subst (λ m. get_or numbers m 0 ≡ get_or numbers node 0) at (same_at (start + k.0) (omega arith) r.0),
+          ),
       λ h.
           let k = contains_at order n (is.ordered.all n h.0) in
           let w = within k.0 k.1 (ap (λ m. get_or numbers m 0) k.2 ∙ h.1) in

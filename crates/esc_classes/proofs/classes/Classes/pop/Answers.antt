@@ -1,5 +1,4 @@
-use Rattle.std.proofs.Common.{◌≡◌, ◌<◌, ◌+◌, ◌-◌, length, get_or, ap, sym, subst, ◌∙◌, arith}
-use Rattle.esc_classes.specs.ClassesInside.{IsInOrder}
+use Rattle.std.proofs.Common.{◌≡◌, ◌-◌, length, ap, ◌∙◌, arith}
 use Rattle.esc_classes.proofs.Sound.{Sound-popped}
 use Rattle.esc_classes.proofs.classes.Classes.pop.Goals as goal
 
