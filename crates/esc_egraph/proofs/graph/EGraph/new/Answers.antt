@@ -1,0 +1,5 @@
+use Rattle.esc_egraph.proofs.Broken.{IsMet-empty}
+use Rattle.esc_egraph.proofs.graph.EGraph.new.Goals as goal
+
+pub returns-clause-met : goal.returns-clause-met
+returns-clause-met c = IsMet-empty
