@@ -1,5 +1,5 @@
 -- A graph that is not broken stays so where a node is made, and where a pair is forbidden that stands in two classes.
-use Rattle.std.proofs.Common.{◌≡◌, ◌≢◌, ℕ, ◌+◌, ◌<◌, ◌≤◌, List, [], ◌∷◌, ◌++◌, ◌⊎◌, inl, inr, length, get_or, All, refl, ap, sym, subst, ◌∙◌, arith}
+use Rattle.std.proofs.Common.{◌≡◌, ℕ, ◌<◌, ◌≤◌, List, [], ◌∷◌, ◌++◌, ◌⊎◌, inl, inr, length, get_or, All, refl, ap, sym, subst, ◌∙◌, arith}
 use Rattle.std.specs.List.{Any}
 use Rattle.std.proofs.lemmas.Bool.{cases_lt}
 use Rattle.std.proofs.lemmas.List.{get_or_append_left, get_or_at, length_push}
@@ -7,7 +7,7 @@ use Rattle.std.proofs.lemmas.List.Elements.{All-get_or}
 use Rattle.esc_classes.specs.Classes.{SameClass}
 use Rattle.esc_nodes.specs.Nodes.{Shape, shape, shape_at}
 use Rattle.esc_egraph.specs.Graph.{Graph, IsGraph}
-use Rattle.esc_egraph.specs.Congruence.{AreAlike, IsClosed, AreUnequalNumerals, ClashesIn, IsBroken, IsMet}
+use Rattle.esc_egraph.specs.Congruence.{AreUnequalNumerals, IsBroken, IsMet}
 use Rattle.esc_egraph.specs.Passes.{IsChosen}
 use Rattle.esc_nodes.specs.declared.top.Top.{Top}
 use Rattle.esc_nodes.specs.declared.top.Top.TheVariants.{Num, App}

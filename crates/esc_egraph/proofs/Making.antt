@@ -1,5 +1,5 @@
 -- What making a node gives.
-use Rattle.std.proofs.Common.{◌≡◌, ℕ, ◌<◌, List, [], ◌∷◌, ◌++◌, length, All, refl, ap, sym, subst, ◌∙◌}
+use Rattle.std.proofs.Common.{◌≡◌, ℕ, ◌<◌, List, [], ◌∷◌, ◌++◌, length, All, refl, ap}
 use Rattle.std.proofs.lemmas.List.Elements.{All-nil}
 use Rattle.esc_nodes.specs.Nodes.{Shape, shape, shape_at}
 use Rattle.esc_nodes.specs.declared.top.Top.{Top}

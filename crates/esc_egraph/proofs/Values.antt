@@ -1,12 +1,12 @@
 -- Congruent values that meet the equations are one in each class.
-use Rattle.std.proofs.Common.{◌≡◌, ℕ, ℤ, pos, negsuc, ◌+◌, ◌*◌, ◌<◌, ◌≤◌, List, [], ◌∷◌, ◌⊎◌, inl, inr, length, get_or, map, All, refl, ap, sym, ◌∙◌, arith}
+use Rattle.std.proofs.Common.{◌≡◌, ℕ, ℤ, pos, negsuc, ◌+◌, ◌<◌, List, inl, inr, length, get_or, map, All, ap, sym, ◌∙◌, arith}
 use Rattle.std.specs.List.{range_with_len}
 use Rattle.std.proofs.lemmas.List.{get_or-map, length-map, same_lists}
 use Rattle.std.proofs.lemmas.List.Elements.{All-get_or}
 use Rattle.std.proofs.lemmas.List.FromFn.{length-range_with_len, get_or-range_with_len}
 use Rattle.esc_classes.specs.Classes.{SameClass}
 use Rattle.esc_nodes.specs.Nodes.{Shape, shape_at, AreTerms}
-use Rattle.esc_egraph.specs.Congruence.{AreAlike, IsClosed, Meets, IsLeast, EqualWith, SameAmong}
+use Rattle.esc_egraph.specs.Congruence.{IsClosed, IsLeast, EqualWith, SameAmong}
 use Rattle.esc_egraph.specs.Laws.{IsCongruent}
 
 -- whole numbers as natural numbers

@@ -1,15 +1,13 @@
 -- Laws of the terms of nodes.
-use Rattle.std.proofs.Common.{◌≡◌, ℕ, ℤ, pos, zero, suc, true, ◌+◌, ◌-◌, ◌<◌, ◌≤◌, List, [], ◌∷◌, ◌++◌, ◌⊎◌, inl, inr, length, take, drop, get_or, map, All, IsTrue, refl, ap, sym, subst, ◌∙◌, append_assoc, arith}
+use Rattle.std.proofs.Common.{◌≡◌, ℕ, pos, zero, suc, ◌+◌, ◌<◌, List, [], ◌∷◌, ◌++◌, length, take, drop, get_or, map, All, IsTrue, refl, ap, sym, ◌∙◌, append_assoc, arith}
 use Rattle.std.specs.List.{fold, list_all}
-use Rattle.std.proofs.lemmas.Bool.{cases_lt}
 use Rattle.std.proofs.lemmas.Grind.{same_number_lists}
 use Rattle.std.proofs.lemmas.List.{get_or_append_left, get_or_at, get_or-map, length-map, length-take, length_push}
 use Rattle.std.proofs.lemmas.List.Elements.{All-get_or}
 use Rattle.std.proofs.lemmas.List.Sums.{fold-append}
-use Rattle.esc_term.specs.declared.term.Head.{Head}
 use Rattle.esc_term.specs.declared.term.Term.{Term}
 use Rattle.esc_term.specs.declared.term.Term.TheVariants as term
-use Rattle.esc_term.specs.Term.{is_ground, binds_term}
+use Rattle.esc_term.specs.Term.{is_ground}
 use Rattle.esc_term.proofs.TermLevels.{binds_term-Num, binds_term-App}
 use Rattle.esc_term.proofs.Parts.{head_of_same, args_of_same, apart_Num}
 use Rattle.esc_nodes.specs.Nodes.{Shape, shape, shape_at, AreTerms}

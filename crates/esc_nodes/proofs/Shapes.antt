@@ -1,9 +1,7 @@
 -- A front of nodes that are terms.
-use Rattle.std.proofs.Common.{◌≡◌, ℕ, ◌+◌, ◌<◌, ◌≤◌, List, [], ◌∷◌, ◌++◌, ◌⊎◌, inl, inr, length, take, get_or, All, ap, sym, subst, ◌∙◌, arith}
-use Rattle.std.proofs.lemmas.Bool.{cases_lt}
-use Rattle.std.proofs.lemmas.List.{length-take, get_or-take, get_or_append_left, get_or_at, length_push}
-use Rattle.std.proofs.lemmas.List.Elements.{All-weaker}
-use Rattle.esc_nodes.specs.Nodes.{Shape, shape, shape_at, AreTerms}
+use Rattle.std.proofs.Common.{◌≡◌, ℕ, ◌<◌, ◌≤◌, List, length, take, ap, sym, ◌∙◌, arith}
+use Rattle.std.proofs.lemmas.List.{length-take, get_or-take}
+use Rattle.esc_nodes.specs.Nodes.{Shape, shape_at, AreTerms}
 
 pub AreTerms-take : (nodes fewer : List Shape) (n : ℕ) → AreTerms nodes → n ≤ length nodes → fewer ≡ take n nodes → AreTerms fewer
 AreTerms-take nodes fewer n are l e =

@@ -1,5 +1,5 @@
 -- The term of a node, by what stands at its top.
-use Rattle.std.proofs.Common.{◌≡◌, ℕ, ℤ, ◌<◌, List, length, map, ap, sym, subst, ◌∙◌}
+use Rattle.std.proofs.Common.{◌≡◌, ℕ, ℤ, ◌<◌, List, length, map, ap, ◌∙◌}
 use Rattle.esc_term.specs.declared.term.Head.{Head}
 use Rattle.esc_term.specs.declared.term.Term.TheVariants as term
 use Rattle.esc_nodes.specs.Nodes.{Shape, shape_at, AreTerms}

@@ -1,8 +1,7 @@
-use Rattle.std.proofs.Common.{rules, ◌≡◌, [], ◌∷◌, ◌++◌, subst, arith}
+use Rattle.std.proofs.Common.{subst, arith}
 use Rattle.std.proofs.lemmas.Grind.{common_steps}
 use Rattle.esc_nodes.specs.Nodes.{Shape}
-use Rattle.esc_egraph.specs.Graph.{Graph, IsGraph}
-use Rattle.esc_egraph.specs.GraphInside.{graph_of}
+use Rattle.esc_egraph.specs.Graph.{IsGraph}
 use Rattle.esc_egraph.proofs.GraphNotes.{notes_made}
 use Rattle.esc_egraph.proofs.graph.EGraph.append.Goals as goal
 

@@ -1,4 +1,4 @@
-use Rattle.std.proofs.Common.{length, ap, subst, arith}
+use Rattle.std.proofs.Common.{length, ap, arith}
 use Rattle.esc_egraph.specs.Graph.{Graph}
 use Rattle.esc_egraph.specs.GraphInside.{graph_of}
 use Rattle.esc_egraph.proofs.Args.{args_are_there}

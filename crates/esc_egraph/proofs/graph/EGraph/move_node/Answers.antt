@@ -1,4 +1,4 @@
-use Rattle.std.proofs.Common.{◌≡◌, ◌<◌, ◌≤◌, length, get_or, ap, sym, ◌∙◌, arith}
+use Rattle.std.proofs.Common.{◌≡◌, ◌<◌, ◌≤◌, length, get_or, ap, sym, arith}
 use Rattle.esc_egraph.specs.Graph.{Graph}
 use Rattle.esc_egraph.specs.GraphInside.{graph_of}
 use Rattle.esc_egraph.proofs.GraphNotes.{notes_moved}

@@ -1,4 +1,4 @@
-use Rattle.std.proofs.Common.{◌≡◌, ◌-◌, length, take, ap, sym, subst, ◌∙◌}
+use Rattle.std.proofs.Common.{◌-◌, take, ap, sym, subst, ◌∙◌}
 use Rattle.esc_egraph.specs.GraphInside.{graph_of}
 use Rattle.esc_egraph.specs.GraphUndo.{CanGoBack}
 use Rattle.esc_egraph.specs.declared.record.EgraphRec.TheVariants.{Made}

@@ -1,7 +1,7 @@
-use Rattle.std.proofs.Common.{rules, ◌≡◌, ℕ, List, length, map, ap, sym, ◌∙◌}
+use Rattle.std.proofs.Common.{rules, ◌≡◌, map, sym, ◌∙◌}
 use Rattle.esc_term.specs.declared.term.Term.TheVariants as term
 use Rattle.esc_term.proofs.Parts.{term_parts}
-use Rattle.esc_nodes.specs.Nodes.{Shape, shape_at}
+use Rattle.esc_nodes.specs.Nodes.{shape_at}
 use Rattle.esc_nodes.specs.Terms.{term_of}
 use Rattle.esc_nodes.proofs.Tops.{term_of-Num, term_of-App}
 use Rattle.esc_nodes.proofs.nodes.Nodes.+has_term.Goals as goal

@@ -1,4 +1,4 @@
-use Rattle.std.proofs.Common.{◌≡◌, ◌-◌, ◌≤◌, length, take, map, ap, sym, ◌∙◌, vec_len, arith}
+use Rattle.std.proofs.Common.{◌-◌, map, ap, sym, ◌∙◌, vec_len, arith}
 use Rattle.std.proofs.lemmas.List.{length-map, take-map}
 use Rattle.esc_nodes.specs.Nodes.{AreTerms}
 use Rattle.esc_nodes.specs.NodesInside.{nodes_of, shape_of}
