@@ -1,5 +1,5 @@
 -- How groups are searched.
-use Rattle.std.specs.Prelude.{ℕ, List, ◌≢◌, ◌<◌, length, slice_index}
+use Rattle.std.specs.Prelude.{ℕ, List, ◌≢◌, ◌<◌, slice_index}
 use Rattle.esc_classes.specs.Classes.{SameClass}
 use Rattle.esc_distinct.specs.Groups.{HoldsElsewhere}
 

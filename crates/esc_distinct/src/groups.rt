@@ -1,4 +1,4 @@
-ghost use Rattle.std.specs.Prelude.{◌≡◌, [], ◌∷◌, ◌++◌, ◌<◌, length, All, OnOk, OnErr, IsTrue, ◌↔◌};
+ghost use Rattle.std.specs.Prelude.{◌≡◌, [], ◌∷◌, ◌++◌, ◌<◌, length, All, OnOk, OnErr, IsTrue, ◌↔◌, slice_index_or};
 ghost use Rattle.esc_trail.specs.Undo.{Notes};
 ghost use Rattle.esc_distinct.specs.GroupsUndo.{groups_undo};
 ghost use Rattle.esc_distinct.specs.Groups.{AreApart, AreBroken};
@@ -65,12 +65,27 @@ impl Groups {
         requires members { All (All (λ n. n < length graph.now.nodes)) self.now }
         ensures { IsTrue result ↔ AreApart graph.now.classes self.now a b }
     {
-        'groups: for group in &self.groups {
-            if holds_apart(graph, group.as_slice(), a, b) {
+        'groups: for place in 0..self.count() {
+            if holds_apart(graph, self.group(place), a, b) {
                 return true;
             }
         }
         false
+    }
+
+    /// How many groups there are.
+    fn count(&self) -> usize
+        ensures { result ≡ length self.now }
+    {
+        self.groups.len()
+    }
+
+    /// The group at a place.
+    fn group(&self, place: usize) -> &[Node]
+        requires { place < length self.now }
+        ensures { result.now ≡ slice_index_or self.now place [] }
+    {
+        self.groups[place].as_slice()
     }
 
     /// Whether one class holds members of one group at two different places.
@@ -78,8 +93,8 @@ impl Groups {
         requires members { All (All (λ n. n < length graph.now.nodes)) self.now }
         ensures { IsTrue result ↔ AreBroken graph.now.classes self.now }
     {
-        'groups: for group in &self.groups {
-            if holds_twice(graph, group.as_slice()) {
+        'groups: for place in 0..self.count() {
+            if holds_twice(graph, self.group(place)) {
                 return true;
             }
         }
