@@ -1,0 +1,4 @@
+pub mod Groups
+pub mod GroupsInside
+pub mod GroupsUndo
+pub mod Passes

@@ -1,0 +1,31 @@
+ghost use Rattle.std.specs.Prelude.{◌≡◌};
+ghost use Rattle.esc_egraph.specs.declared.record.EgraphRec.{EgraphRec};
+
+use esc_classes::Node;
+
+/// What takes one change of a graph back.
+#[derive(Clone, Copy)]
+pub enum EgraphRec {
+    /// The last node was made.
+    Made,
+    /// The node came into a class, from the class of this number.
+    Joined(Node, usize),
+    /// The last pair was forbidden.
+    Forbidden,
+}
+
+/// A record of the whole trail, which can hold a record of a graph.
+pub trait CarriesNodes: Copy {
+    ghost carried_node: { EgraphRec → Self };
+
+    fn carry_node(rec: EgraphRec) -> Self
+        ensures { result ≡ carried_node rec };
+}
+
+impl CarriesNodes for EgraphRec {
+    ghost carried_node = { λ rec. rec };
+
+    fn carry_node(rec: EgraphRec) -> EgraphRec {
+        rec
+    }
+}

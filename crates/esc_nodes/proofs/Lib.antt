@@ -1,0 +1,3 @@
+pub mod NodeTerms
+pub mod Shapes
+pub mod Tops

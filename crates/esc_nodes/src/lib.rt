@@ -1,0 +1,13 @@
+//! Ground terms as nodes: each term has one node, which has the nodes of its arguments.
+#![tactic(auto)]
+
+mod laws;
+mod nodes;
+mod top;
+
+pub use laws::term_laws;
+pub use nodes::{Nodes, arguments};
+pub use top::Top;
+
+#[cfg(test)]
+mod tests;

@@ -1,0 +1,145 @@
+ghost use Rattle.std.specs.Prelude.{◌≡◌, ℕ, ◌+◌, ◌-◌, ◌<◌, [], ◌∷◌, ◌++◌, length, take, OnOk, OnErr, IfSome, IfNone, IsTrue, ◌↔◌, All};
+ghost use Rattle.esc_nodes.specs.Nodes.{shape, shape_at, AreTerms};
+
+mod term;
+
+use crate::top::Top;
+use esc_classes::Node;
+use smallvec::SmallVec;
+use std::alloc::{AllocError, Global};
+use std::marker::Model;
+
+/// Most terms have no more arguments than these, and need no memory of their own.
+const INLINE_ARGS: usize = 4;
+
+#[derive(Drop)]
+struct Entry {
+    top: Top,
+    args: SmallVec<Node, INLINE_ARGS>,
+}
+
+/// The nodes in the order of making.
+#[derive(Drop)]
+pub struct Nodes {
+    alloc: Global,
+    entries: Vec<Entry>,
+}
+
+impl Model for Nodes {
+    ghost use Rattle.std.specs.Prelude.{List};
+    ghost use Rattle.esc_nodes.specs.Nodes.{Shape};
+
+    ghost Value = { List Shape };
+
+    ghost use Rattle.esc_nodes.specs.NodesInside.{nodes_of, IsSound};
+
+    ghost view = { nodes_of };
+
+    ghost invariant = { IsSound };
+}
+
+impl Nodes {
+    pub fn new(alloc: Global) -> Nodes
+        ensures { result ≡ [] }
+    {
+        Nodes {
+            alloc,
+            entries: Vec::new(alloc),
+        }
+    }
+
+    /// How many nodes there are.
+    pub fn count(&self) -> usize
+        ensures count { result ≡ length self.now }
+        ensures terms { AreTerms self.now }
+    {
+        self.entries.len()
+    }
+
+    /// What stands at the top of a node's term.
+    pub fn top(&self, node: Node) -> Top
+        requires { node < length self.now }
+        ensures { result ≡ (shape_at self.now node).top }
+    {
+        self.entries[node.index()].top
+    }
+
+    /// The nodes of the arguments of a node's term.
+    pub fn args(&self, node: Node) -> &[Node]
+        requires { node < length self.now }
+        ensures { result.now ≡ (shape_at self.now node).args }
+    {
+        self.entries[node.index()].args.as_slice()
+    }
+
+    /// The node with this top and these arguments.
+    pub fn find(&self, top: Top, args: &[Node]) -> Option<Node>
+        ensures some { IfSome result (λ k. (k < length self.now) × (shape_at self.now k ≡ record { top = top; args = args.now })) }
+        ensures none { IfNone result ((k : ℕ) → k < length self.now → shape_at self.now k ≡ record { top = top; args = args.now } → ⊥) }
+    {
+        'nodes: for index in 0..self.entries.len() {
+            let node = Node::new(index);
+            if self.is_shape(node, top, args) {
+                return Some(node);
+            }
+        }
+        None
+    }
+
+    /// Whether a node has this top and these arguments.
+    fn is_shape(&self, node: Node, top: Top, args: &[Node]) -> bool
+        requires { node < length self.now }
+        ensures { IsTrue result ↔ (shape_at self.now node ≡ record { top = top; args = args.now }) }
+    {
+        self.top(node) == top && same_nodes(self.args(node), args)
+    }
+
+    /// Makes a node, which was not there.
+    pub fn push(&mut self, top: Top, args: &[Node]) -> Result<(), AllocError>
+        requires args_are_there { All (λ a. a < length self.old) args.now }
+        requires bare { shape top args.now ≡ record { top = top; args = args.now } }
+        requires absent { (k : ℕ) → k < length self.old → shape_at self.old k ≡ record { top = top; args = args.now } → ⊥ }
+        ensures ok { OnOk result (self.new ≡ self.old ++ record { top = top; args = args.now } ∷ []) }
+        ensures terms { AreTerms self.new }
+        ensures err { OnErr result (self.new ≡ self.old) }
+    {
+        let args = SmallVec::from_slice(self.alloc, args)?;
+        self.entries.reserve(1)?;
+        self.entries.push(Entry { top, args }).unwrap();
+        Ok(())
+    }
+
+    /// Takes the last node away.
+    pub fn pop(&mut self)
+        requires { 0 < length self.old }
+        ensures rest { self.new ≡ take (length self.old - 1) self.old }
+        ensures terms { AreTerms self.new }
+    {
+        let _ = self.entries.pop();
+    }
+}
+
+/// The arguments of a term, of which a numeral has none.
+pub fn arguments(top: Top, args: &[Node]) -> &[Node]
+    ensures { result.now ≡ (shape top args.now).args }
+{
+    match top {
+        Top::Num(_) => &args[..0],
+        Top::App(_) => args,
+    }
+}
+
+/// Whether two lists have the same nodes.
+fn same_nodes(xs: &[Node], ys: &[Node]) -> bool
+    ensures { IsTrue result ↔ (xs.now ≡ ys.now) }
+{
+    if xs.len() != ys.len() {
+        return false;
+    }
+    'places: for (x, y) in xs.iter().zip(ys) {
+        if x.index() != y.index() {
+            return false;
+        }
+    }
+    true
+}
