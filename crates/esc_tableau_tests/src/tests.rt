@@ -47,6 +47,21 @@ impl Feasible {
         }
     }
 
+    // Makes the row of a part, and drops it.
+    fn row_and_back(&mut self, alloc: Global, part: Part) -> Result<(), Fail> {
+        if part.unknown.number() >= self.tableau.count() {
+            return Err("not an unknown".into());
+        }
+        let parts = Parts::from_slice(alloc, &[part])?;
+        match self.tableau.add_row(&parts, Frac::whole(1)) {
+            Ok(_) => {
+                self.tableau.drop_last();
+                Ok(())
+            }
+            Err(_) => Err("no row".into()),
+        }
+    }
+
     // The row of two unknowns.
     fn sum(
         &mut self,
@@ -303,6 +318,21 @@ fn rows_are_put_back(rt: HostRuntime) -> Result<(), Fail> {
     rows.refill()?;
     assert_eq!(rt; rows.tableau.value(first), Frac::whole(4));
     assert!(rt; rows.ends(goal, 0, Ok(Peak::NotPositive), -2));
+    Ok(())
+}
+
+// A row that is made and dropped leaves x - 6 with its bound, x at most 4, and its greatest value -2.
+#[test]
+fn a_dropped_row_leaves_nothing(rt: HostRuntime) -> Result<(), Fail> {
+    let alloc = rt.alloc();
+    let mut rows = Feasible::new(alloc);
+    let first = rows.column()?;
+    let left = rows.row(alloc, -1, first, 4)?;
+    assert!(rt; rows.restrict(left));
+    let goal = rows.row(alloc, 1, first, -6)?;
+    rows.row_and_back(alloc, part(2, left))?;
+    assert_eq!(rt; rows.tableau.count(), 3);
+    assert!(rt; rows.ends(goal, 1, Ok(Peak::NotPositive), -2));
     Ok(())
 }
 
