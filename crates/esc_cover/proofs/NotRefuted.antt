@@ -358,7 +358,7 @@ not_refuted literals _ formulas free cex refuted =
     (ap (λ cs. (cover literals cs f).holds) (sym cex.least.shown) ∙ cex.covered k d h))
 
 -- no formula without order is said both to hold and to fail
-pub not_both_ways : (literals : List Item) (classes : List (List Term)) (formulas : List Formula) → IsLeast literals formulas classes → IsConsistent literals classes
+pub not_both_ways : (literals : List Item) (classes : List (List Term)) (formulas : List Formula) → IsLeast literals (active_terms formulas) classes → IsConsistent literals classes
     → (f : Formula) → list_all (λ atom. not (is_order_form (out-Formula atom))) (atoms_of f) ≡ true
     → (cover literals classes f).holds ≡ true → (cover literals classes f).fails ≡ true → ⊥
 not_both_ways literals _ formulas least consistent f free holds fails =

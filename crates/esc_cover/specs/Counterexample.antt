@@ -9,7 +9,7 @@ use Rattle.esc_term.specs.declared.formula.Formula.TheOpen.{Formula-F}
 use Rattle.esc_term.specs.declared.formula.Formula.TheFolds.{para-Formula}
 use Rattle.esc_term.specs.declared.formula.Quant.{Quant}
 use Rattle.esc_term.specs.declared.formula.Item.{Item}
-use Rattle.esc_cover.specs.Classes.{together}
+use Rattle.esc_cover.specs.Classes.{active_terms, together}
 use Rattle.esc_cover.specs.Cover.{cover, every_two}
 use Rattle.esc_cover.specs.Least.{IsLeast}
 
@@ -47,7 +47,7 @@ pub record IsConsistent (literals : List Item) (classes : List (List Term)) : Ty
   pub one_sign : (f : Formula) → Contains literals (record { formula = f; positive = true }) → Contains literals (record { formula = f; positive = false }) → ⊥
 
 pub record Counterexample (literals : List Item) (classes : List (List Term)) (formulas : List Formula) : Type 0 where
-  pub least : IsLeast literals formulas classes
+  pub least : IsLeast literals (active_terms formulas) classes
   pub consistent : IsConsistent literals classes
   -- each formula is said to hold
   pub covered : All (λ f. IsTrue (cover literals classes f).holds) formulas

@@ -5,10 +5,9 @@ use Rattle.std.specs.List.{AllZip, Contains}
 use Rattle.esc_term.specs.declared.term.Head.{Head}
 use Rattle.esc_term.specs.declared.term.Term.{Term}
 use Rattle.esc_term.specs.declared.term.Term.TheVariants.{App}
-use Rattle.esc_term.specs.declared.formula.Formula.{Formula}
 use Rattle.esc_term.specs.declared.formula.Formula.TheVariants.{Eq}
 use Rattle.esc_term.specs.declared.formula.Item.{Item}
-use Rattle.esc_cover.specs.Classes.{active_terms, classes_by}
+use Rattle.esc_cover.specs.Classes.{classes_by}
 
 -- a test of which terms belong together that obeys congruence among the terms and each equation that holds
 pub record IsClosed (same : Term → Term → Bool) (terms : List Term) (literals : List Item) : Type 0 where
@@ -18,10 +17,10 @@ pub record IsClosed (same : Term → Term → Bool) (terms : List Term) (literal
       → AllZip (λ s t. IsTrue (same s t)) ss ts → IsTrue (same (App head ss) (App head ts))
   pub equations : (s t : Term) → Contains literals (record { formula = Eq s t; positive = true }) → IsTrue (same s t)
 
--- the classes are those of the finest such test over the terms in play
-pub record IsLeast (literals : List Item) (formulas : List Formula) (classes : List (List Term)) : Type 0 where
+-- the classes are those of the finest such test over the terms
+pub record IsLeast (literals : List Item) (terms : List Term) (classes : List (List Term)) : Type 0 where
   pub same : Term → Term → Bool
-  pub closed : IsClosed same (active_terms formulas) literals
-  pub finest : (other : Term → Term → Bool) → IsClosed other (active_terms formulas) literals
-      → (s t : Term) → Contains (active_terms formulas) s → Contains (active_terms formulas) t → IsTrue (same s t) → IsTrue (other s t)
-  pub shown : classes ≡ classes_by same (active_terms formulas)
+  pub closed : IsClosed same terms literals
+  pub finest : (other : Term → Term → Bool) → IsClosed other terms literals
+      → (s t : Term) → Contains terms s → Contains terms t → IsTrue (same s t) → IsTrue (other s t)
+  pub shown : classes ≡ classes_by same terms

@@ -110,7 +110,7 @@ never_holds s t f h =
     let claimed : Item = record { formula = f; positive = true } in
     let sign : false ≡ true = ap (λ (i : Item). i.positive) (only s t claimed h) in cc
 
-least : (s t : Term) → IsLeast (record { formula = Eq s t; positive = false } ∷ []) (Not (Eq s t) ∷ []) (singles s t)
+least : (s t : Term) → IsLeast (record { formula = Eq s t; positive = false } ∷ []) (active_terms (Not (Eq s t) ∷ [])) (singles s t)
 least s t = record {
   same = same_term;
   closed = record {
