@@ -6,6 +6,8 @@ use Rattle.std.proofs.lemmas.List.Elements.{Contains-append_left, Contains-push}
 use Rattle.esc_term.proofs.Members.{Contains-none, Contains-cases}
 use Rattle.esc_term.proofs.Pairs.{list_any-map}
 use Rattle.esc_term.specs.declared.term.Term.{Term}
+use Rattle.esc_term.specs.declared.formula.Item.{Item}
+use Rattle.esc_cover.specs.Least.{IsLeast}
 use Rattle.esc_cover.specs.Classes.{classes_by, has, leaders, together, with_new_class}
 use Rattle.esc_cover.proofs.TestLemmas.{and_both, and_left, and_right, any_at, any_found, has-at, has-found, kept, not_both, of_kept}
 
@@ -114,3 +116,24 @@ module _ (same : Term → Term → Bool) (eq : IsEquivalence same) where
       go on false false is js h e =
           on (subst (λ c. 0 < cond c (suc (length us)) (number us s)) is h)
           (ap (λ c. cond c (suc (length us)) (number us s)) (sym is) ∙ e ∙ ap (λ c. cond c (suc (length us)) (number us t)) js)
+
+-- ---- least classes
+
+module _ (literals : List Item) (terms : List Term) (classes : List (List Term)) (least : IsLeast literals terms classes) where
+  abbrev same : Term → Term → Bool
+  same = least.same
+
+  pub of_least : (s t : Term) → together classes s t ≡ true → Contains terms s × Contains terms t × (least.same s t ≡ true)
+  of_least s t e = of_together same least.closed.equivalence terms s t (subst (λ cs. together cs s t ≡ true) least.shown e)
+
+  by_least : (s t : Term) → Contains terms s → Contains terms t → same s t ≡ true → together classes s t ≡ true
+  by_least s t hs ht e = subst (λ cs. together cs s t ≡ true) (sym least.shown) (together_by same least.closed.equivalence terms s t hs ht e)
+
+  pub least_turned : (s t : Term) → together classes s t ≡ true → together classes t s ≡ true
+  least_turned s t e = let found = of_least s t e in by_least t s found.1 found.0 (together_turned same least.closed.equivalence s t found.2)
+
+  pub least_through : (s t u : Term) → together classes s t ≡ true → together classes t u ≡ true → together classes s u ≡ true
+  least_through s t u e f =
+      let first = of_least s t e in
+      let second = of_least t u f in
+      by_least s u first.0 second.1 (together_through same least.closed.equivalence s t u first.2 second.2)

@@ -2,5 +2,11 @@ pub mod ActiveTerms
 pub mod AtomsLevels
 pub mod ClassLemmas
 pub mod CoverLevels
+pub mod CoverOrder
+pub mod ForcedApart
 pub mod NotRefuted
+pub mod Sound
+pub mod Stays
 pub mod TestLemmas
+pub mod TruthCover
+pub mod TwoPlaces

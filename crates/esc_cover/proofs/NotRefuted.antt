@@ -1,11 +1,10 @@
 -- Formulas without numbers that have a counterexample are true where each term has the number of its class for its value.
-use Rattle.std.proofs.Common.{◌≡◌, ℕ, ◌<◌, ℤ, pos, Bool, true, false, not, ◌&&◌, ◌||◌, if◌then◌else◌, cond, inl, inr, List, [], ◌∷◌, ◌++◌, map, get_or, refl, ap, sym, subst, ◌∙◌, arith}
+use Rattle.std.proofs.Common.{◌≡◌, ℕ, ◌<◌, ℤ, pos, Bool, true, false, not, ◌&&◌, cond, inl, inr, List, [], ◌∷◌, map, get_or, refl, ap, sym, subst, ◌∙◌, arith}
 use Rattle.std.specs.Prelude.{IsTrue}
 use Rattle.std.specs.List.{AllZip, Contains, flat_map, list_all, list_any}
 use Rattle.std.specs.Ordering.{int_eq}
 use Rattle.std.proofs.lemmas.Bool.Decides.{Decides-int_eq}
 use Rattle.std.proofs.lemmas.List.Elements.{All-contains_itself}
-use Rattle.std.proofs.lemmas.List.Folds.{list_all-append, list_all-map}
 use denote.Hole.Carrier.{roll}
 use Rattle.esc_term.specs.declared.term.Head.{Head}
 use Rattle.esc_term.specs.declared.term.Head.TheVariants.{Add, Sub, Mul}
@@ -17,37 +16,27 @@ use Rattle.esc_term.specs.declared.formula.Formula.{Formula, out-Formula}
 use Rattle.esc_term.specs.declared.formula.Formula.TheVariants as formula
 use Rattle.esc_term.specs.declared.formula.Formula.TheOpen.{Formula-F}
 use Rattle.esc_term.specs.declared.formula.Formula.TheViews.{roll-Formula, out-roll-Formula}
-use Rattle.esc_term.specs.declared.formula.Formula.TheFolds.{map-Formula, ind-Formula}
 use Rattle.esc_term.specs.declared.formula.Quant.{Quant}
 use Rattle.esc_term.specs.declared.formula.Item.{Item}
-use Rattle.esc_term.specs.Equal.{same_item, same_item-is}
 use Rattle.esc_term.specs.Term.{is_ground, truth_term}
 use Rattle.esc_term.specs.Formula.{terms_of}
-use Rattle.esc_term.specs.Interpretation.{Interpretation, Interprets, all_apart, domain_of, truth}
+use Rattle.esc_term.specs.Interpretation.{Interpretation, Interprets, domain_of, truth}
 use Rattle.esc_term.proofs.GroundTerms.{is_ground-App}
-use Rattle.esc_term.proofs.Members.{Contains-none, Contains-here, Contains-later, Contains-cases, Contains-flat_map, Contains-in_flat_map}
+use Rattle.esc_term.proofs.Members.{Contains-none, Contains-here, Contains-later, Contains-cases, Contains-flat_map}
 use Rattle.esc_term.proofs.TruthLevels as levels
-use Rattle.esc_term.proofs.Wholes.{domain-whole, of_member}
+use Rattle.esc_term.proofs.Wholes.{domain-whole}
 use Rattle.esc_cover.specs.Classes.{active_terms, classes_by, has, together}
-use Rattle.esc_cover.specs.Cover.{are_between, cover, every_two, is_forced_apart, is_literal, numerals_part, parts, parts_form, some_two}
-use Rattle.esc_cover.specs.Counterexample.{Counterexample, IsConsistent, atoms_of}
+use Rattle.esc_cover.specs.Cover.{are_between, by_literal, cover, is_forced_apart, is_literal, numerals_part, parts, parts_form}
+use Rattle.esc_cover.specs.Counterexample.{IsConsistent, atoms_of}
 use Rattle.esc_cover.specs.Laws.{NotRefuted, is_free_form, is_free_head, is_free_of_numbers, is_order_form}
 use Rattle.esc_cover.specs.Least.{IsClosed, IsLeast}
 use Rattle.esc_cover.proofs.ActiveTerms.{active, of_active}
-use Rattle.esc_cover.proofs.AtomsLevels as atoms
-use Rattle.esc_cover.proofs.CoverLevels as covers
 use Rattle.esc_cover.proofs.ClassLemmas.{number, number_apart, number_found, number_same, of_together, together_by}
-use Rattle.esc_cover.proofs.TestLemmas.{and_both, and_fails_left, and_fails_right, and_left, and_right, all_at, all_fails_at, all_from, any_at, any_found, false_from, has-at, has-found, has_none, none_from, not_both, not_true, or_cases, or_left, or_right}
-
--- ---- two places of a list
-
-some_two_found : (test : Term → Term → Bool) (ts : List Term) → some_two test ts ≡ true → (s : Term) × (t : Term) × (test s t ≡ true)
-some_two_found test [] e = cc
-some_two_found test (s ∷ ts) e =
-    elim (or_cases (list_any (test s) ts) (some_two test ts) e) [
-      | inl here ↦ let found = any_found (test s) ts here in (s, found.0, found.2)
-      | inr later ↦ some_two_found test ts later
-    ]
+use Rattle.esc_cover.proofs.CoverLevels as covers
+use Rattle.esc_cover.proofs.CoverOrder.{AreAtomsWithin, IsWithin, goes_by_atoms, within_by}
+use Rattle.esc_cover.proofs.TestLemmas.{all_at, all_from, and_left, and_right, any_found, false_from, has-at, has-found, has_none, literal_found, not_both, not_true, or_cases}
+use Rattle.esc_cover.proofs.TruthCover.{decided, distinct_within, eq_within, truth_cover, truth_cover-parts}
+use Rattle.esc_cover.proofs.TwoPlaces.{some_two_found}
 
 -- ---- classes that are forced apart have terms
 
@@ -124,144 +113,38 @@ module _ (literals : List Item) (formulas : List Formula) (same : Term → Term 
       (together_by same closed.equivalence terms s t there.0 there.1 (same_value s t there.0 (cc equal)).1)
       (not_true (together classes s t) (and_left _ _ e)))
 
-  distinct_holds : (ts : List Term) → every_two (is_forced_apart literals classes) ts ≡ true → all_apart (map numbers.value ts) ≡ true
-  distinct_holds [] e = refl
-  distinct_holds (t ∷ ts) e =
-      and_both (list_all (λ m. not (int_eq (numbers.value t) m)) (map numbers.value ts)) (all_apart (map numbers.value ts))
-      (list_all-map (λ m. not (int_eq (numbers.value t) m)) numbers.value ts
-      ∙ all_from (λ u. not (int_eq (numbers.value t) (numbers.value u))) ts (λ u h. ap not (eq_fails t u (all_at (is_forced_apart literals classes t) ts u (and_left _ _ e) h))))
-      (distinct_holds ts (and_right (list_all (is_forced_apart literals classes t) ts) _ e))
-
-  distinct_fails : (ts : List Term) → some_two (together classes) ts ≡ true → all_apart (map numbers.value ts) ≡ false
-  distinct_fails [] e = cc
-  distinct_fails (t ∷ ts) e =
-      elim (or_cases (list_any (together classes t) ts) (some_two (together classes) ts) e) [
-        | inl here ↦
-            let found = any_found (together classes t) ts here in
-            and_fails_left (list_all (λ m. not (int_eq (numbers.value t) m)) (map numbers.value ts)) (all_apart (map numbers.value ts))
-            (list_all-map (λ m. not (int_eq (numbers.value t) m)) numbers.value ts
-            ∙ all_fails_at (λ u. not (int_eq (numbers.value t) (numbers.value u))) ts found.0 found.1 (ap not (eq_holds t found.0 found.2)))
-        | inr later ↦ and_fails_right (list_all (λ m. not (int_eq (numbers.value t) m)) (map numbers.value ts)) (all_apart (map numbers.value ts)) (distinct_fails ts later)
-      ]
-
   -- ---- what is said of a formula is true
 
   module _ (one_sign : (f : Formula) → Contains literals (record { formula = f; positive = true }) → Contains literals (record { formula = f; positive = false }) → ⊥) where
     abbrev unordered : List Formula → Bool
     unordered fs = list_all (λ atom. not (is_order_form (out-Formula atom))) fs
 
-    pub record IsSaid (f : Formula) : Type 0 where
-      pub holds : (cover literals classes f).holds ≡ true → truth numbers f ≡ true
-      pub fails : (cover literals classes f).fails ≡ true → truth numbers f ≡ false
-
     abbrev Said : Formula → Type 0
-    Said f = unordered (atoms_of f) ≡ true → IsSaid f
-
-    abbrev Any_quant : Quant → Type 0
-    Any_quant q = Unit {0}
-
-    literal_found : (f : Formula) (positive : Bool) → is_literal literals f positive ≡ true → Contains literals (record { formula = f; positive = positive })
-    literal_found f positive e =
-        let item : Item = record { formula = f; positive = positive } in
-        let found = any_found (same_item item) literals e in
-        subst (Contains literals) (sym ((same_item-is item found.0).0 found.2)) found.1
+    Said f = IsWithin (cover literals classes f) (truth_cover numbers f)
 
     literal_once : (f : Formula) → is_literal literals f false ≡ true → is_literal literals f true ≡ false
-    literal_once f e = false_from (is_literal literals f true) (λ h. one_sign f (literal_found f true h) (literal_found f false e))
+    literal_once f e = false_from (is_literal literals f true) (λ h. one_sign f (literal_found literals f true h) (literal_found literals f false e))
 
-    both_orders : (xs ys : List Formula) → unordered (xs ++ ys) ≡ true → (unordered xs ≡ true) × (unordered ys ≡ true)
-    both_orders xs ys e =
-        let both : (unordered xs && unordered ys) ≡ true = sym (list_all-append (λ atom. not (is_order_form (out-Formula atom))) xs ys) ∙ e in
-        (and_left _ _ both, and_right _ _ both)
+    literal_said : (f : Formula) → cover literals classes f ≡ by_literal literals f → truth numbers f ≡ is_literal literals f true → Said f
+    literal_said f covers is = within_by _ _ _ _ covers (ap decided is) (record { holds = λ h. h; fails = λ h. ap not (literal_once f h) })
 
-    each_said : (es : List ((f : Formula) × Said f)) → unordered (flat_map atoms_of (map (λ e. e.0) es)) ≡ true → (f : Formula) → Contains (map (λ e. e.0) es) f → IsSaid f
-    each_said es free f h =
-        of_member Said es f h (all_from _ (atoms_of f) (λ atom k.
-        all_at (λ atom. not (is_order_form (out-Formula atom))) (flat_map atoms_of (map (λ e. e.0) es)) atom free (Contains-in_flat_map atoms_of (map (λ e. e.0) es) f atom h k)))
+    no_order : (among : List Formula) → unordered among ≡ true → (s t : Term) → Contains among (formula.Less s t) → ⊥
+    unfolding roll-Formula roll
+    no_order among free s t h =
+        let order = all_at (λ atom. not (is_order_form (out-Formula atom))) among (formula.Less s t) free h in
+        let clash : not true ≡ true = ap (λ form. not (is_order_form form)) (sym (out-roll-Formula (Formula-F.Less s t))) ∙ order in cc
 
-    said_by : (f : Formula) (c : _) (b : Bool) → cover literals classes f ≡ c → truth numbers f ≡ b → (c.holds ≡ true → b ≡ true) → (c.fails ≡ true → b ≡ false) → IsSaid f
-    said_by f c b covers is holds fails = record {
-      holds = λ h. is ∙ holds (ap (λ d. d.holds) (sym covers) ∙ h);
-      fails = λ h. is ∙ fails (ap (λ d. d.fails) (sym covers) ∙ h);
+    atoms_said : (among : List Formula) → unordered among ≡ true → AreAtomsWithin literals classes (truth_cover numbers) (truth_cover-parts numbers) among
+    atoms_said among free = record {
+      of_Forall = λ q h. literal_said (formula.Forall q) (covers.cover-Forall literals classes q) (levels.truth-Forall numbers q);
+      of_Exists = λ q h. literal_said (formula.Exists q) (covers.cover-Exists literals classes q) (levels.truth-Exists numbers q);
+      of_Eq = λ s t h. eq_within literals classes numbers eq_holds eq_fails s t;
+      of_Less = λ s t h. absurd (no_order among free s t h);
+      of_Distinct = λ ts h. distinct_within literals classes numbers eq_holds eq_fails ts;
     }
 
-    implies_fails : (a b : Bool) → a ≡ true → b ≡ false → (not a || b) ≡ false
-    implies_fails a b e f = ap (λ x. not x || b) e ∙ f
-
-    iff_is : (a b c d : Bool) → a ≡ c → b ≡ d → (if a then b else not b) ≡ (if c then d else not d)
-    iff_is a b c d e f = ap (λ x. if x then b else not b) e ∙ ap (λ x. if c then x else not x) f
-
-    said_at : (y : Formula-F ((f : Formula) × Said f) ((q : Quant) × Any_quant q))
-        → Said (roll-Formula (map-Formula ((f : Formula) × Said f) ((q : Quant) × Any_quant q) Formula Quant (λ e. e.0) (λ e. e.0) y))
-    unfolding roll-Formula roll
-    said_at Formula-F.True free = said_by formula.True _ true (covers.cover-True literals classes) (levels.truth-True numbers) (λ h. refl) (λ h. sym h)
-    said_at Formula-F.False free = said_by formula.False _ false (covers.cover-False literals classes) (levels.truth-False numbers) (λ h. h) (λ h. refl)
-    said_at (Formula-F.And es) free =
-        let fs : List Formula = map (λ e. e.0) es in
-        let each = each_said es (ap unordered (sym (atoms.atoms_of-And fs)) ∙ free) in
-        said_by (formula.And fs) _ (list_all (truth numbers) fs) (covers.cover-And literals classes fs) (levels.truth-And numbers fs)
-        (λ h. all_from (truth numbers) fs (λ f k. (each f k).holds (all_at (λ f. (cover literals classes f).holds) fs f h k)))
-        (λ h. let found = any_found (λ f. (cover literals classes f).fails) fs h in all_fails_at (truth numbers) fs found.0 found.1 ((each found.0 found.1).fails found.2))
-    said_at (Formula-F.Or es) free =
-        let fs : List Formula = map (λ e. e.0) es in
-        let each = each_said es (ap unordered (sym (atoms.atoms_of-Or fs)) ∙ free) in
-        said_by (formula.Or fs) _ (list_any (truth numbers) fs) (covers.cover-Or literals classes fs) (levels.truth-Or numbers fs)
-        (λ h. let found = any_found (λ f. (cover literals classes f).holds) fs h in any_at (truth numbers) fs found.0 found.1 ((each found.0 found.1).holds found.2))
-        (λ h. none_from (truth numbers) fs (λ f k. (each f k).fails (all_at (λ f. (cover literals classes f).fails) fs f h k)))
-    said_at (Formula-F.Not e) free =
-        let part = e.1 (ap unordered (sym (atoms.atoms_of-Not e.0)) ∙ free) in
-        said_by (formula.Not e.0) _ (not (truth numbers e.0)) (covers.cover-Not literals classes e.0) (levels.truth-Not numbers e.0)
-        (λ h. ap not (part.fails h)) (λ h. ap not (part.holds h))
-    said_at (Formula-F.Implies d e) free =
-        let both = both_orders (atoms_of d.0) (atoms_of e.0) (ap unordered (sym (atoms.atoms_of-Implies d.0 e.0)) ∙ free) in
-        let left = d.1 both.0 in
-        let right = e.1 both.1 in
-        said_by (formula.Implies d.0 e.0) _ (not (truth numbers d.0) || truth numbers e.0) (covers.cover-Implies literals classes d.0 e.0) (levels.truth-Implies numbers d.0 e.0)
-        (λ h. elim (or_cases (cover literals classes d.0).fails (cover literals classes e.0).holds h) [
-          | inl fails ↦ or_left (not (truth numbers d.0)) (truth numbers e.0) (ap not (left.fails fails))
-          | inr holds ↦ or_right (not (truth numbers d.0)) (truth numbers e.0) (right.holds holds)
-        ])
-        (λ h. implies_fails (truth numbers d.0) (truth numbers e.0) (left.holds (and_left _ _ h)) (right.fails (and_right _ _ h)))
-    said_at (Formula-F.Iff d e) free =
-        let both = both_orders (atoms_of d.0) (atoms_of e.0) (ap unordered (sym (atoms.atoms_of-Iff d.0 e.0)) ∙ free) in
-        let left = d.1 both.0 in
-        let right = e.1 both.1 in
-        let l = cover literals classes d.0 in
-        let r = cover literals classes e.0 in
-        said_by (formula.Iff d.0 e.0) _ (if truth numbers d.0 then truth numbers e.0 else not (truth numbers e.0)) (covers.cover-Iff literals classes d.0 e.0) (levels.truth-Iff numbers d.0 e.0)
-        (λ h. elim (or_cases (l.holds && r.holds) (l.fails && r.fails) h) [
-          | inl hold ↦ iff_is _ _ true true (left.holds (and_left _ _ hold)) (right.holds (and_right _ _ hold))
-          | inr fail ↦ iff_is _ _ false false (left.fails (and_left _ _ fail)) (right.fails (and_right _ _ fail))
-        ])
-        (λ h. elim (or_cases (l.holds && r.fails) (l.fails && r.holds) h) [
-          | inl one ↦ iff_is _ _ true false (left.holds (and_left _ _ one)) (right.fails (and_right _ _ one))
-          | inr other ↦ iff_is _ _ false true (left.fails (and_left _ _ other)) (right.holds (and_right _ _ other))
-        ])
-    said_at (Formula-F.Forall q) free =
-        said_by (formula.Forall q.0) _ (is_literal literals (formula.Forall q.0) true) (covers.cover-Forall literals classes q.0) (levels.truth-Forall numbers q.0)
-        (λ h. h) (λ h. literal_once (formula.Forall q.0) h)
-    said_at (Formula-F.Exists q) free =
-        said_by (formula.Exists q.0) _ (is_literal literals (formula.Exists q.0) true) (covers.cover-Exists literals classes q.0) (levels.truth-Exists numbers q.0)
-        (λ h. h) (λ h. literal_once (formula.Exists q.0) h)
-    said_at (Formula-F.Eq s t) free =
-        said_by (formula.Eq s t) _ (int_eq (numbers.value s) (numbers.value t)) (covers.cover-Eq literals classes s t) (levels.truth-Eq numbers s t)
-        (λ h. eq_holds s t h) (λ h. eq_fails s t h)
-    said_at (Formula-F.Less s t) free =
-        let order = all_at (λ atom. not (is_order_form (out-Formula atom))) (atoms_of (formula.Less s t)) (formula.Less s t) free
-        (subst (λ fs. Contains fs (formula.Less s t)) (sym (atoms.atoms_of-Less s t)) (Contains-here (formula.Less s t) [])) in
-        let clash : not true ≡ true = ap (λ form. not (is_order_form form)) (sym (out-roll-Formula (Formula-F.Less s t))) ∙ order in cc
-    said_at (Formula-F.Distinct ts) free =
-        said_by (formula.Distinct ts) _ (all_apart (map numbers.value ts)) (covers.cover-Distinct literals classes ts) (levels.truth-Distinct numbers ts)
-        (λ h. distinct_holds ts h) (λ h. distinct_fails ts h)
-    said_at (Formula-F.LabelPos name e) free =
-        let part = e.1 (ap unordered (sym (atoms.atoms_of-LabelPos name e.0)) ∙ free) in
-        said_by (formula.LabelPos name e.0) _ (truth numbers e.0) (covers.cover-LabelPos literals classes name e.0) (levels.truth-LabelPos numbers name e.0) part.holds part.fails
-    said_at (Formula-F.LabelNeg name e) free =
-        let part = e.1 (ap unordered (sym (atoms.atoms_of-LabelNeg name e.0)) ∙ free) in
-        said_by (formula.LabelNeg name e.0) _ (truth numbers e.0) (covers.cover-LabelNeg literals classes name e.0) (levels.truth-LabelNeg numbers name e.0) part.holds part.fails
-
-    pub said : (f : Formula) → Said f
-    said = ind-Formula Said Any_quant (λ x y is. subst (λ z. Said (roll-Formula z)) is (said_at y)) (λ x y is. tt)
+    pub said : (f : Formula) → unordered (atoms_of f) ≡ true → Said f
+    said f free = goes_by_atoms literals classes (truth_cover numbers) (truth_cover-parts numbers) f (atoms_said (atoms_of f) free)
 
   -- ---- the numbers are an interpretation
 
@@ -365,4 +248,4 @@ not_both_ways literals _ formulas least consistent f free holds fails =
     let both = said literals formulas least.same least.closed consistent.one_sign f free in
     not_both (truth (numbers literals formulas least.same least.closed) f)
     (both.holds (ap (λ cs. (cover literals cs f).holds) (sym least.shown) ∙ holds))
-    (both.fails (ap (λ cs. (cover literals cs f).fails) (sym least.shown) ∙ fails))
+    (not_true _ (both.fails (ap (λ cs. (cover literals cs f).fails) (sym least.shown) ∙ fails)))
