@@ -1,5 +1,5 @@
 -- What a counterexample is: literals and classes that agree with each other and cover all formulas of a branch.
-use Rattle.std.specs.Prelude.{◌≡◌, ℤ, true, false, not, IsTrue, List, [], ◌∷◌, ◌++◌, map}
+use Rattle.std.specs.Prelude.{◌≡◌, ℤ, Bool, true, false, not, IsTrue, List, [], ◌∷◌, ◌++◌, map}
 use Rattle.std.specs.List.{All, Contains, flat_map}
 use Rattle.esc_term.specs.declared.term.Term.{Term}
 use Rattle.esc_term.specs.declared.term.Term.TheVariants.{Num}
@@ -7,6 +7,7 @@ use Rattle.esc_term.specs.declared.formula.Formula.{Formula}
 use Rattle.esc_term.specs.declared.formula.Formula.TheVariants as formula
 use Rattle.esc_term.specs.declared.formula.Formula.TheOpen.{Formula-F}
 use Rattle.esc_term.specs.declared.formula.Formula.TheFolds.{para-Formula}
+use Rattle.esc_term.specs.declared.formula.Formula.TheViews.{out-Formula}
 use Rattle.esc_term.specs.declared.formula.Quant.{Quant}
 use Rattle.esc_term.specs.declared.formula.Item.{Item}
 use Rattle.esc_cover.specs.Classes.{active_terms, together}
@@ -46,10 +47,20 @@ pub record IsConsistent (literals : List Item) (classes : List (List Term)) : Ty
   -- no formula is a literal with both signs
   pub one_sign : (f : Formula) → Contains literals (record { formula = f; positive = true }) → Contains literals (record { formula = f; positive = false }) → ⊥
 
+-- what a literal may be: an equation, an order or a quantified formula with either sign, or a distinction that holds
+abbrev pub is_literal_form : Formula-F Formula Quant → Bool → Bool
+is_literal_form (Formula-F.Eq s t) positive = true
+is_literal_form (Formula-F.Less s t) positive = true
+is_literal_form (Formula-F.Forall quant) positive = true
+is_literal_form (Formula-F.Exists quant) positive = true
+is_literal_form (Formula-F.Distinct ts) positive = positive
+is_literal_form form positive = false
+
 pub record Counterexample (literals : List Item) (classes : List (List Term)) (formulas : List Formula) : Type 0 where
   pub least : IsLeast literals (active_terms formulas) classes
   pub consistent : IsConsistent literals classes
   -- each formula is said to hold
   pub covered : All (λ f. IsTrue (cover literals classes f).holds) formulas
+  pub forms : All (λ item. IsTrue (is_literal_form (out-Formula item.formula) item.positive)) literals
   -- each literal is an atom of the formulas
   pub atoms : All (λ item. Contains (flat_map atoms_of formulas) item.formula) literals

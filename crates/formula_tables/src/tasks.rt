@@ -1,0 +1,125 @@
+//! The tasks of a table.
+
+use crate::reading::{goal, goal_of_text, printed, printed_terms};
+use esc_names::Names;
+use esc_sexp::Sexp;
+use esc_term::{Formula, Quant, Terms, all_ground, free_within, ground_terms, negate, substitute};
+use std::alloc::{AllocError, Global};
+
+/// The line where an expression is no task.
+const NO_TASK: &[u8] = b"no task";
+
+/// The line where an expression in the place of a formula is none.
+const NO_FORMULA: &[u8] = b"no formula";
+
+/// The line that answers a task.
+pub fn line_of(alloc: Global, names: &mut Names, task: &Sexp) -> Result<Vec<u8>, AllocError> {
+    let Sexp::List(_, items) = task else {
+        return Vec::from_slice(alloc, NO_TASK);
+    };
+    match items.as_slice() {
+        [Sexp::Bare(_, word), part] => simple(alloc, names, word.as_slice(), part),
+        [Sexp::Bare(_, word), part, terms] if word.as_slice() == b"replace".as_slice() => {
+            replaced(alloc, names, part, terms)
+        }
+        _ => Vec::from_slice(alloc, NO_TASK),
+    }
+}
+
+/// A task on a formula alone.
+fn simple(
+    alloc: Global,
+    names: &mut Names,
+    word: &[u8],
+    part: &Sexp,
+) -> Result<Vec<u8>, AllocError> {
+    let Some(formula) = goal(alloc, names, part) else {
+        return Vec::from_slice(alloc, NO_FORMULA);
+    };
+    match word {
+        b"print" => printed_and_read(alloc, names, &formula),
+        b"negate" => printed(alloc, names, &negate(alloc, &formula)?),
+        b"copy" => copied(alloc, names, &formula),
+        b"ground" => printed_terms(alloc, names, &ground_terms(alloc, &formula)?),
+        _ => Vec::from_slice(alloc, NO_TASK),
+    }
+}
+
+/// The text with the prover's names of variables as names that may be read.
+fn readable(alloc: Global, text: &[u8]) -> Result<Vec<u8>, AllocError> {
+    let mut renamed = Vec::new(alloc);
+    'bytes: for (place, byte) in text.iter().enumerate() {
+        if *byte != b'@' || !text[place..].starts_with(b"@v.") {
+            renamed.push(*byte)?;
+        }
+    }
+    Ok(renamed)
+}
+
+fn printed_and_read(
+    alloc: Global,
+    names: &mut Names,
+    formula: &Formula,
+) -> Result<Vec<u8>, AllocError> {
+    let text = printed(alloc, names, formula)?;
+    let again = readable(alloc, text.as_slice())?;
+    match goal_of_text(alloc, names, again.as_slice()) {
+        Some(again) if again == *formula => Ok(text),
+        _ => Vec::from_slice(alloc, b"reads as another formula"),
+    }
+}
+
+fn copied(alloc: Global, names: &Names, formula: &Formula) -> Result<Vec<u8>, AllocError> {
+    let copy = formula.copy(alloc)?;
+    if copy == *formula {
+        return printed(alloc, names, &copy);
+    }
+    Vec::from_slice(alloc, b"differs")
+}
+
+/// The quantified part of a formula.
+fn quantified(formula: &Formula) -> Option<&Quant> {
+    match formula {
+        Formula::Forall(quant) | Formula::Exists(quant) => Some(quant.get()),
+        _ => None,
+    }
+}
+
+/// The members of a distinction.
+fn members(formula: &Formula) -> Option<&Terms> {
+    match formula {
+        Formula::Distinct(terms) => Some(terms),
+        _ => None,
+    }
+}
+
+fn replaced(
+    alloc: Global,
+    names: &mut Names,
+    part: &Sexp,
+    terms: &Sexp,
+) -> Result<Vec<u8>, AllocError> {
+    let Some(formula) = goal(alloc, names, part) else {
+        return Vec::from_slice(alloc, NO_FORMULA);
+    };
+    let Some(listed) = goal(alloc, names, terms) else {
+        return Vec::from_slice(alloc, NO_FORMULA);
+    };
+    let (Some(quant), Some(terms)) = (quantified(&formula), members(&listed)) else {
+        return Vec::from_slice(alloc, NO_TASK);
+    };
+    instance(alloc, names, quant, terms)
+}
+
+fn instance(
+    alloc: Global,
+    names: &Names,
+    quant: &Quant,
+    terms: &Terms,
+) -> Result<Vec<u8>, AllocError> {
+    if all_ground(terms) && free_within(&quant.body, terms.len()) {
+        let body = substitute(alloc, &quant.body, terms)?;
+        return printed(alloc, names, &body);
+    }
+    Vec::from_slice(alloc, b"too few terms")
+}
