@@ -61,6 +61,13 @@ impl Names {
         }
     }
 
+    /// No two names are spelled alike. The method states it, and does nothing.
+    pub fn rows_differ(&self)
+        ensures { HasDistinctRows self.now }
+    {
+        let _ = &self.spellings;
+    }
+
     /// How the name is spelled: empty where the number is no name's.
     pub fn spelling(&self, sym: Sym) -> &[u8]
         ensures { result.now ≡ unwrap_or (slice_get self.now sym.0) [] }

@@ -1,13 +1,14 @@
 -- The text of a report. Every line ends with a line feed.
-use Rattle.std.specs.Prelude.{ℕ, List, [], ◌∷◌, ◌++◌, codes, decimal, Option, Some, None}
+use Rattle.std.specs.Prelude.{ℕ, List, [], ◌++◌, codes, decimal, Option, Some, None}
 use Rattle.std.specs.List.{flat_map}
 use Rattle.esc_print.specs.Formulas.{literal_text}
 use Rattle.esc_term.specs.declared.formula.Item.{Item}
-use Rattle.esc_report.specs.declared.report.Counterexample.{Counterexample}
+use Rattle.esc_read.specs.declared.fault.FormKind.{FormKind}
+use Rattle.esc_read.specs.declared.fault.FormKind.TheVariants.{WrongCount, NotAFormula, NotATerm, NumberTooLarge, ReservedName, DuplicateVariable, MisplacedPattern, EmptyList}
 use Rattle.esc_report.specs.declared.report.Refusal.{Refusal}
-use Rattle.esc_report.specs.declared.report.Refusal.TheVariants.{Unsupported}
+use Rattle.esc_report.specs.declared.report.Refusal.TheVariants.{Form, Unsupported}
 use Rattle.esc_report.specs.declared.report.Report.{Report}
-use Rattle.esc_report.specs.declared.report.Report.TheVariants.{Valid, Invalid, Refused, Memory}
+use Rattle.esc_report.specs.declared.report.Report.TheVariants.{Valid, Invalid, Refused, Memory, Done}
 
 unfoldable pub opening : List ℕ
 opening = codes "Counterexample:\n  context:\n"
@@ -23,7 +24,18 @@ literal_lines names = flat_map (literal_line names)
 abbrev pub goal_line : ℕ → List ℕ → List ℕ
 goal_line goal answer = decimal goal ++ answer
 
+abbrev pub form_text : FormKind → List ℕ
+form_text WrongCount = codes "wrong number of arguments"
+form_text NotAFormula = codes "not a formula"
+form_text NotATerm = codes "not a term"
+form_text NumberTooLarge = codes "number too large"
+form_text ReservedName = codes "reserved name"
+form_text DuplicateVariable = codes "duplicate variable"
+form_text MisplacedPattern = codes "misplaced pattern"
+form_text EmptyList = codes "empty list"
+
 abbrev pub refusal_text : Refusal → List ℕ
+refusal_text (Form kind) = form_text kind
 refusal_text Unsupported = codes "not supported yet"
 
 unfoldable pub why_line : Refusal → List ℕ
@@ -49,3 +61,4 @@ report_text names (Valid goal formulas) = goal_line goal (codes ": Valid.\n")
 report_text names (Invalid goal found) = invalid_text names goal found.literals
 report_text names (Refused place why) = place_line (codes "Refused at byte ") place (why_line why)
 report_text names (Memory goal place) = memory_text goal place
+report_text names Done = []

@@ -3,19 +3,36 @@
 ghost use Rattle.std.specs.Prelude.{◌≡◌, ◌++◌};
 ghost use Rattle.esc_io.specs.Faults.{HasCause};
 ghost use Rattle.esc_io.specs.Putting.{Puts};
-ghost use Rattle.esc_report.specs.Text.{goal_line, invalid_line, invalid_text, literal_line, literal_lines, memory_text, opening, place_line, refusal_text, report_text, why_line};
+ghost use Rattle.esc_report.specs.Text.{form_text, goal_line, invalid_line, invalid_text, literal_line, literal_lines, memory_text, opening, place_line, refusal_text, report_text, why_line};
 ghost use Rattle.esc_print.specs.Formulas.{literal_text};
 
 use crate::report::{Refusal, Report};
 use esc_io::{Failed, Sink, put_all};
 use esc_names::Names;
 use esc_print::{put_literal, put_number};
+use esc_read::FormKind;
 use esc_term::Item;
+
+fn form_text(kind: FormKind) -> &'static [u8]
+    ensures { result.now ≡ form_text kind }
+{
+    match kind {
+        FormKind::WrongCount => b"wrong number of arguments",
+        FormKind::NotAFormula => b"not a formula",
+        FormKind::NotATerm => b"not a term",
+        FormKind::NumberTooLarge => b"number too large",
+        FormKind::ReservedName => b"reserved name",
+        FormKind::DuplicateVariable => b"duplicate variable",
+        FormKind::MisplacedPattern => b"misplaced pattern",
+        FormKind::EmptyList => b"empty list",
+    }
+}
 
 fn refusal_text(why: Refusal) -> &'static [u8]
     ensures { result.now ≡ refusal_text why }
 {
     match why {
+        Refusal::Form(kind) => form_text(kind),
         Refusal::Unsupported => b"not supported yet",
     }
 }
@@ -161,5 +178,6 @@ pub fn put_report<K: Sink>(report: &Report, names: &Names, sink: &mut K) -> Resu
         }
         Report::Refused { place, why } => put_refused(b"Refused at byte ", *place, *why, sink),
         Report::Memory { goal, place } => put_memory(*goal, *place, sink),
+        Report::Done => Ok(()),
     }
 }

@@ -1,5 +1,6 @@
 //! What the prover answers to a command.
 
+use esc_read::FormKind;
 use esc_term::{Formulas, Item, Terms};
 use sqlite_items::Items;
 
@@ -25,6 +26,8 @@ pub struct Counterexample {
 /// Why a command is not carried out.
 #[derive(Clone, Copy, Debug, PartialEq, Eq)]
 pub enum Refusal {
+    /// The expression is no command, and this is the first thing that is wrong with it.
+    Form(FormKind),
     /// The prover does not answer this form yet.
     Unsupported,
 }
@@ -35,8 +38,10 @@ pub enum Report {
     /// The formulas are refuted, of which the last is the negated goal.
     Valid { goal: u64, formulas: Formulas },
     Invalid { goal: u64, found: Counterexample },
-    /// The place is that of the refused command's first byte.
+    /// The place is that of the first byte of what is wrong, or of the command where its form is not answered yet.
     Refused { place: u64, why: Refusal },
     /// Want of memory. The goal is told where the command was read as one.
     Memory { goal: Option<u64>, place: u64 },
+    /// The command is carried out, and nothing is to be said.
+    Done,
 }

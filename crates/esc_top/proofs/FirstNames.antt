@@ -1,5 +1,5 @@
 -- The names that are always there differ.
-use Rattle.std.proofs.Common.{◌≡◌, ℕ, zero, suc, ◌+◌, ◌*◌, List, Option, Some, None, ◌==◌, Bool, true, false, get_or, refl, sym, ap, ◌∙◌}
+use Rattle.std.proofs.Common.{◌≡◌, ℕ, zero, suc, ◌+◌, ◌*◌, List, Option, Some, None, ◌==◌, true, false, get_or, refl, sym, ap, ◌∙◌}
 use Rattle.std.proofs.lemmas.Bool.Decides.{Decides-eqb}
 use Rattle.esc_names.specs.Numbering.{first_names}
 use Rattle.esc_names.specs.Rows.{HasDistinctRows}

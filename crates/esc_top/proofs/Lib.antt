@@ -1,9 +1,5 @@
-pub mod Deciding
-pub mod Equations
+pub mod Commands
 pub mod FirstNames
-pub mod Goaling
 pub mod ReadingLemmas
-pub mod Singles
 pub mod ToldLemmas
 pub mod UnderwayLemmas
-pub mod Words

@@ -1,12 +1,11 @@
 -- How reading in pieces goes on behind the expressions that were found.
-use Rattle.std.proofs.Common.{◌≡◌, ℕ, ◌+◌, Bool, true, false, IsTrue, List, [], ◌∷◌, ◌++◌, length, append_assoc, None, refl, sym, ap, subst, ◌∙◌}
-use Rattle.std.specs.Prelude.{◌↔◌}
+use Rattle.std.proofs.Common.{◌≡◌, ℕ, Bool, true, false, List, [], ◌∷◌, ◌++◌, append_assoc, None, refl, sym, ap, subst, ◌∙◌}
 use Rattle.std.proofs.lemmas.List.{append-nil}
 use Rattle.esc_sexp.specs.declared.sexp.Sexp.{Sexp}
 use Rattle.esc_sexp.specs.declared.sexp.SexpFault.{SexpFault}
 use Rattle.esc_sexp.specs.Grammar as grammar
 use Rattle.esc_sexp.specs.Grammar.{End, Finds, FirstFault, IsBlankText, Reads, broken, whole}
-use Rattle.esc_sexp.specs.Unread.{Unread, Forgets, Gives, HasFault, HoldsNothing, ReadsAlike, fault_by}
+use Rattle.esc_sexp.specs.Unread.{Unread, Forgets, Gives, HoldsNothing, ReadsAlike}
 use Rattle.esc_sexp.proofs.Exact.{fault_stays, found_stays}
 use Rattle.esc_top.specs.Reading.{BeginsAs, HasFirst, HasWhole}
 use Rattle.esc_top.specs.Ran.{MayFollow}

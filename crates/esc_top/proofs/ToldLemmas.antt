@@ -1,12 +1,11 @@
 -- One report more.
-use Rattle.std.proofs.Common.{◌≡◌, ℕ, Bool, true, false, ◌&&◌, List, [], ◌∷◌, ◌++◌, refl, sym, ap, subst, ◌∙◌}
-use Rattle.std.specs.List.{flat_map, list_all}
+use Rattle.std.proofs.Common.{◌≡◌, ℕ, Bool, true, false, ◌&&◌, List, [], ◌∷◌, ◌++◌, refl, ap, subst, ◌∙◌}
 use Rattle.std.proofs.lemmas.List.{append-nil}
 use Rattle.std.proofs.lemmas.List.Concat.{flat_map-append}
 use Rattle.esc_sexp.specs.declared.sexp.Sexp.{Sexp}
 use Rattle.esc_report.specs.Text.{report_text}
 use Rattle.esc_top.specs.Answers.{Answers}
-use Rattle.esc_top.specs.Told.{Told, AnswersAll, Grown, all_valid, is_valid_report, texts}
+use Rattle.esc_top.specs.Told.{Told, AnswersAll, Grown, all_proved, is_proved_report, texts}
 
 pub AnswersAll-push : (names : List (List ℕ)) (goals : ℕ) (es : List Sexp) (tolds : List Told) (between : List (List ℕ)) (before : ℕ) (e : Sexp) (told : Told) (now : ℕ)
     → AnswersAll names goals es tolds between before → Grown between told.names → Answers told.names before e told.report now
@@ -22,13 +21,13 @@ pub texts-push : (tolds : List Told) (told : Told) → texts (tolds ++ told ∷ 
 texts-push tolds told =
     flat_map-append (λ (t : Told). report_text t.names t.report) tolds (told ∷ []) ∙ ap (λ (l : List ℕ). texts tolds ++ l) (append-nil (report_text told.names told.report))
 
-pub all_valid-push : (tolds : List Told) (told : Told) → all_valid (tolds ++ told ∷ []) ≡ (all_valid tolds && is_valid_report told.report)
-all_valid-push [] told = one (is_valid_report told.report)
+pub all_proved-push : (tolds : List Told) (told : Told) → all_proved (tolds ++ told ∷ []) ≡ (all_proved tolds && is_proved_report told.report)
+all_proved-push [] told = one (is_proved_report told.report)
   where
     one : (b : Bool) → (b && true) ≡ (true && b)
     one true = refl
     one false = refl
-all_valid-push (t ∷ tolds) told = ap (λ (b : Bool). is_valid_report t.report && b) (all_valid-push tolds told) ∙ regroup (is_valid_report t.report) (all_valid tolds) (is_valid_report told.report)
+all_proved-push (t ∷ tolds) told = ap (λ (b : Bool). is_proved_report t.report && b) (all_proved-push tolds told) ∙ regroup (is_proved_report t.report) (all_proved tolds) (is_proved_report told.report)
   where
     regroup : (a b c : Bool) → (a && (b && c)) ≡ ((a && b) && c)
     regroup true b c = refl

@@ -1,37 +1,54 @@
 -- What a report may answer to an expression.
-use Rattle.std.specs.Prelude.{◌≡◌, ℕ, ◌+◌, List, [], ◌∷◌, ◌++◌, map, Option, Some, None}
+use Rattle.std.specs.Prelude.{◌≡◌, ℕ, ◌+◌, Bool, true, false, not, IsTrue, List, [], ◌∷◌, Option, Some, None, Ok, Err}
 use Rattle.esc_sexp.specs.declared.sexp.Sexp.{Sexp}
 use Rattle.esc_term.specs.declared.formula.Formula.{Formula}
-use Rattle.esc_term.specs.declared.formula.Formula.TheVariants.{Eq, Not}
-use Rattle.esc_term.specs.declared.term.Head.TheVariants.{Name}
-use Rattle.esc_term.specs.declared.term.Term.{Term}
-use Rattle.esc_term.specs.declared.term.Term.TheVariants.{App}
+use Rattle.esc_term.specs.declared.formula.Formula.TheVariants.{Not}
 use Rattle.esc_term.specs.Refuted.{Refuted}
-use Rattle.esc_cover.specs.Counterexample.{Counterexample}
+use Rattle.esc_read.specs.Reading.{Numbering, Numbers, Outcome}
+use Rattle.esc_read.specs.Tokens.{place_of}
+use Rattle.esc_form.specs.declared.command.Command.{Command}
+use Rattle.esc_form.specs.declared.command.Kind.{Kind}
+use Rattle.esc_form.specs.declared.command.Kind.TheVariants as kind
+use Rattle.esc_form.specs.Commands.{command}
+use Rattle.esc_assume.specs.Supported.{is_supported}
+use Rattle.esc_plain.specs.Verdicts.{IsInvalid}
 use Rattle.esc_report.specs.declared.report.Report.{Report}
 use Rattle.esc_report.specs.declared.report.Report.TheVariants as report
-use Rattle.esc_report.specs.declared.report.Refusal.{Refusal}
-use Rattle.esc_report.specs.declared.report.Refusal.TheVariants.{Unsupported}
-use Rattle.esc_report.specs.declared.report.Counterexample.{Counterexample as Found}
-use Rattle.esc_top.specs.Goals.{IsGoal, IsUnsupported, place_of}
+use Rattle.esc_report.specs.declared.report.Refusal.TheVariants.{Form, Unsupported}
+
+-- ---- commands
+
+-- by each numbering that gives the names of the table their places, the expression reads so
+abbrev pub ReadsAs : List (List ℕ) → Sexp → Outcome Command → Type 0
+ReadsAs names e outcome = (number : Numbering) → Numbers names number → command e number ≡ outcome
+
+-- the expression is a command of this kind
+abbrev pub IsCommand : List (List ℕ) → Sexp → Kind → Type 0
+IsCommand names e what = ReadsAs names e (Ok (record { place = place_of e; kind = what }))
+
+-- commands and goals that are not answered yet
+abbrev pub is_unsupported : Kind → Bool
+is_unsupported (kind.Goal f) = not (is_supported f)
+is_unsupported (kind.Push fs) = true
+is_unsupported kind.Pop = true
+is_unsupported (kind.Define name count place rule) = true
+is_unsupported kind.Prompt = false
+
+-- ---- goals
 
 -- the negated goal is the one formula, and it is refuted
 pub record IsValid (f : Formula) (formulas : List Formula) : Type 0 where
   pub formulas_are : formulas ≡ Not f ∷ []
   pub refuted : Refuted formulas
 
--- the negated goal is not refuted, and what was found is a counterexample to the goal
-pub record IsInvalid (f : Formula) (found : Found) : Type 0 where
-  pub not_refuted : Refuted (Not f ∷ []) → ⊥
-  pub counterexample : Counterexample found.literals (map (λ c. c.terms) found.classes) (Not f ∷ [])
-
--- the expression is the goal with the next number
+-- the expression is a goal that is answered, and it has the next number
 pub record IsNextGoal (names : List (List ℕ)) (goals : ℕ) (e : Sexp) (f : Formula) (goal now : ℕ) : Type 0 where
-  pub is_goal : IsGoal names e f
+  pub is_goal : IsCommand names e (kind.Goal f)
+  pub supported : IsTrue (is_supported f)
   pub number : goal ≡ goals + 1
   pub counted : now ≡ goals + 1
 
--- want of memory: before the expression was read as a goal, or in answering that goal
+-- want of memory: in reading the expression, or in answering a goal
 abbrev pub LacksMemory : List (List ℕ) → ℕ → Sexp → Option ℕ → ℕ → Type 0
 LacksMemory names goals e (Some goal) now = (f : Formula) × IsNextGoal names goals e f goal now
 LacksMemory names goals e None now = now ≡ goals
@@ -40,20 +57,15 @@ LacksMemory names goals e None now = now ≡ goals
 abbrev pub Answers : List (List ℕ) → ℕ → Sexp → Report → ℕ → Type 0
 Answers names goals e (report.Valid goal formulas) now = (f : Formula) × IsNextGoal names goals e f goal now × IsValid f formulas
 Answers names goals e (report.Invalid goal found) now = (f : Formula) × IsNextGoal names goals e f goal now × IsInvalid f found
-Answers names goals e (report.Refused place Unsupported) now = IsUnsupported e × (place ≡ place_of e) × (now ≡ goals)
+Answers names goals e (report.Refused place (Form what)) now = ReadsAs names e (Err (record { kind = what; place = place })) × (now ≡ goals)
+Answers names goals e (report.Refused place Unsupported) now = (what : Kind) × IsCommand names e what × IsTrue (is_unsupported what) × (place ≡ place_of e) × (now ≡ goals)
 Answers names goals e (report.Memory goal place) now = (place ≡ place_of e) × LacksMemory names goals e goal now
-
--- a name alone
-abbrev pub IsNameTerm : Term → Type 0
-IsNameTerm t = (number : ℕ) × (t ≡ App (Name (record { 0 = number })) [])
-
-pub record AreNames (left right : Term) : Type 0 where
-  pub left_name : IsNameTerm left
-  pub right_name : IsNameTerm right
+Answers names goals e report.Done now = IsCommand names e kind.Prompt × (now ≡ goals)
 
 -- the report answers the goal with this number
-abbrev pub Reports : ℕ → Term → Term → Report → Type 0
-Reports goal left right (report.Valid number formulas) = (number ≡ goal) × IsValid (Eq left right) formulas
-Reports goal left right (report.Invalid number found) = (number ≡ goal) × IsInvalid (Eq left right) found
-Reports goal left right (report.Refused place why) = ⊥
-Reports goal left right (report.Memory number place) = ⊥
+abbrev pub Reports : ℕ → Formula → Report → Type 0
+Reports goal f (report.Valid number formulas) = (number ≡ goal) × IsValid f formulas
+Reports goal f (report.Invalid number found) = (number ≡ goal) × IsInvalid f found
+Reports goal f (report.Refused place why) = ⊥
+Reports goal f (report.Memory number place) = ⊥
+Reports goal f report.Done = ⊥

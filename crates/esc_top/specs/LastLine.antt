@@ -4,7 +4,7 @@ use Rattle.esc_sexp.specs.declared.sexp.SexpFault.{SexpFault}
 use Rattle.esc_sexp.specs.declared.sexp.SexpKind.{SexpKind}
 use Rattle.esc_sexp.specs.declared.sexp.SexpKind.TheVariants.{Unclosed, StrayClose, BadByte, OpenBar, TooDeep, TooLong}
 use Rattle.esc_top.specs.declared.status.Status.{Status}
-use Rattle.esc_top.specs.declared.status.Status.TheVariants.{Proved, Answered, Syntax, ReadFault, WriteFault, Memory, TooMuch}
+use Rattle.esc_top.specs.declared.status.Status.TheVariants.{Proved, Answered, BadWords, Syntax, ReadFault, WriteFault, Memory, TooMuch}
 
 abbrev pub kind_text : SexpKind → List ℕ
 kind_text Unclosed = codes "unclosed parenthesis"
@@ -27,6 +27,7 @@ fault_line fault = fault_opening ++ (decimal fault.place ++ kind_line fault.kind
 abbrev pub last_line : Status → List ℕ
 last_line Proved = []
 last_line Answered = []
+last_line BadWords = codes "usage: simplify\n"
 last_line (Syntax fault) = fault_line fault
 last_line ReadFault = codes "Read fault.\n"
 last_line WriteFault = []

@@ -1,6 +1,5 @@
 pub mod Answers
 pub mod Codes
-pub mod Goals
 pub mod LastLine
 pub mod Ran
 pub mod Reading

@@ -1,5 +1,5 @@
 -- What a run reads and writes, and how it ends, where source and sink tell their bytes.
-use Rattle.std.specs.Prelude.{◌≡◌, ◌≢◌, ◌≤◌, ℕ, Bool, true, false, not, IsTrue, List, [], ◌++◌, length, Option}
+use Rattle.std.specs.Prelude.{◌≡◌, ◌≢◌, ◌≤◌, ◌<◌, ◌↔◌, ℕ, Bool, false, not, IsTrue, List, [], ◌++◌, length, Option}
 use Rattle.std.specs.Io.KnownBytes.{IsAtEnd}
 use Rattle.esc_io.specs.Faults.{Rose}
 use Rattle.esc_io.specs.Putting.{Grows, GrowsByFront}
@@ -10,9 +10,9 @@ use Rattle.esc_top.specs.LastLine.{last_line}
 use Rattle.esc_names.specs.Numbering.{first_names}
 use Rattle.esc_names.specs.Rows.{HasDistinctRows}
 use Rattle.esc_top.specs.Reading.{HasFirst, HasTooMuch, HasWhole, max_input}
-use Rattle.esc_top.specs.Told.{Told, AnswersAll, all_valid, texts}
+use Rattle.esc_top.specs.Told.{Told, AnswersAll, all_proved, texts}
 use Rattle.esc_top.specs.declared.status.Status.{Status}
-use Rattle.esc_top.specs.declared.status.Status.TheVariants.{Proved, Answered, Syntax, ReadFault, WriteFault, Memory, TooMuch}
+use Rattle.esc_top.specs.declared.status.Status.TheVariants.{Proved, Answered, BadWords, Syntax, ReadFault, WriteFault, Memory, TooMuch}
 
 -- what may follow the bytes that were taken: nothing, where the source has said that they are all
 abbrev pub MayFollow : Bool → List ℕ → Type 0
@@ -20,8 +20,9 @@ MayFollow ended more = IsTrue ended → more ≡ []
 
 -- how far the bytes were read and answered, by the status
 abbrev pub IsReadTo : Status → Bool → List ℕ → List Sexp → List Told → Type 0
-IsReadTo Proved ended taken es told = IsTrue ended × Reads 0 taken es whole × IsTrue (all_valid told)
-IsReadTo Answered ended taken es told = IsTrue ended × Reads 0 taken es whole × IsTrue (not (all_valid told))
+IsReadTo Proved ended taken es told = IsTrue ended × Reads 0 taken es whole × IsTrue (all_proved told)
+IsReadTo Answered ended taken es told = IsTrue ended × Reads 0 taken es whole × IsTrue (not (all_proved told))
+IsReadTo BadWords ended taken es told = (ended ≡ false) × (taken ≡ []) × (es ≡ [])
 IsReadTo (Syntax fault) ended taken es told = (more : List ℕ) → MayFollow ended more → Reads 0 (taken ++ more) es (broken fault)
 IsReadTo ReadFault ended taken es told = HasWhole taken es
 IsReadTo WriteFault ended taken es told = (more : List ℕ) → MayFollow ended more → HasFirst (taken ++ more) es
@@ -35,7 +36,8 @@ IsCounted status before after = after ≡ before
 
 -- The bytes that were taken begin with expressions that are answered in order; the texts of the answers and the last
 -- line are written. With a write fault it is a front of what some status, reached before the fault, would have written.
-pub record Ran (left rest written now : Option (List ℕ)) (before after : ℕ) (result : Status) : Type 0 where
+-- The command line has so many words, with the program's name.
+pub record Ran (words : ℕ) (left rest written now : Option (List ℕ)) (before after : ℕ) (result : Status) : Type 0 where
   pub taken : List ℕ
   pub ended : Bool
   pub expressions : List Sexp
@@ -43,6 +45,8 @@ pub record Ran (left rest written now : Option (List ℕ)) (before after : ℕ) 
   pub names : List (List ℕ)
   pub goals : ℕ
   pub reached : Status
+  -- words behind the program's name are not understood
+  pub worded : (reached ≡ BadWords) ↔ (1 < words)
   pub consumed : Takes left rest taken
   pub at_end : IsTrue ended → IsAtEnd rest
   -- no name has two numbers

@@ -1,5 +1,5 @@
 -- The reports of a run, one after another, and their texts.
-use Rattle.std.specs.Prelude.{◌≡◌, ℕ, Bool, true, false, ◌&&◌, List, [], ◌∷◌, ◌++◌}
+use Rattle.std.specs.Prelude.{◌≡◌, ℕ, Bool, true, false, List, [], ◌∷◌, ◌++◌}
 use Rattle.std.specs.List.{flat_map, list_all}
 use Rattle.esc_sexp.specs.declared.sexp.Sexp.{Sexp}
 use Rattle.esc_report.specs.declared.report.Report.{Report}
@@ -28,10 +28,12 @@ AnswersAll names goals (e ∷ es) [] names_now goals_now = ⊥
 abbrev pub texts : List Told → List ℕ
 texts = flat_map (λ told. report_text told.names told.report)
 
-abbrev pub is_valid_report : Report → Bool
-is_valid_report (report.Valid goal formulas) = true
-is_valid_report r = false
+-- a goal was proved, or a command was carried out
+abbrev pub is_proved_report : Report → Bool
+is_proved_report (report.Valid goal formulas) = true
+is_proved_report report.Done = true
+is_proved_report r = false
 
 -- each goal was proved and nothing was refused
-abbrev pub all_valid : List Told → Bool
-all_valid = list_all (λ told. is_valid_report told.report)
+abbrev pub all_proved : List Told → Bool
+all_proved = list_all (λ told. is_proved_report told.report)

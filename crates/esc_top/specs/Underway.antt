@@ -1,5 +1,5 @@
 -- What stands between the steps of a run.
-use Rattle.std.specs.Prelude.{◌≡◌, ◌≢◌, ℕ, ◌+◌, ◌<◌, ◌≤◌, Bool, true, false, ◌&&◌, if◌then◌else◌, IsTrue, List, [], ◌∷◌, ◌++◌, length, Option, None, Result, Ok, Err}
+use Rattle.std.specs.Prelude.{◌≡◌, ◌≢◌, ℕ, ◌+◌, ◌<◌, ◌≤◌, Bool, true, ◌&&◌, if◌then◌else◌, IsTrue, List, [], ◌∷◌, ◌++◌, length, Option, None, Result, Ok, Err}
 use Rattle.std.specs.Io.KnownBytes.{IsAtEnd}
 use Rattle.esc_io.specs.Faults.{Rose}
 use Rattle.esc_io.specs.Putting.{Grows, GrowsByFront, Puts}
@@ -15,14 +15,14 @@ use Rattle.esc_top.specs.Ran.{IsCounted, IsReadTo}
 use Rattle.esc_names.specs.Numbering.{first_names}
 use Rattle.esc_names.specs.Rows.{HasDistinctRows}
 use Rattle.esc_top.specs.Reading.{BeginsAs, max_input}
-use Rattle.esc_top.specs.Told.{Told, AnswersAll, Grown, all_valid, is_valid_report, texts}
+use Rattle.esc_top.specs.Told.{Told, AnswersAll, Grown, all_proved, is_proved_report, texts}
 use Rattle.esc_top.specs.declared.desk.Desk.{Desk}
 use Rattle.esc_top.specs.declared.input.Feeding.{Feeding}
 use Rattle.esc_top.specs.declared.input.Feeding.TheVariants as feeding
 use Rattle.esc_top.specs.declared.input.Stop.{Stop}
 use Rattle.esc_top.specs.declared.input.Stop.TheVariants as stop
 use Rattle.esc_top.specs.declared.status.Status.{Status}
-use Rattle.esc_top.specs.declared.status.Status.TheVariants.{Proved, Answered, WriteFault, TooMuch}
+use Rattle.esc_top.specs.declared.status.Status.TheVariants.{Proved, Answered, BadWords, WriteFault, TooMuch}
 
 -- what the reader has before it says nothing against these: an end of the text that it has been told
 abbrev pub Agrees : Bool → Bool → List ℕ → Type 0
@@ -47,7 +47,7 @@ pub record Underway (left rest written now : Option (List ℕ)) (unread : Unread
   pub within : length taken ≤ max_input
   pub distinct : HasDistinctRows desk.names
   pub answers : AnswersAll first_names 0 expressions told desk.names desk.goals
-  pub clean : desk.all_valid ≡ all_valid told
+  pub clean : desk.all_proved ≡ all_proved told
   pub grown : Grows written now (texts told)
 
 -- the reader has no further whole expression before it and no fault, and nothing but blanks where the bytes are all
@@ -71,6 +71,7 @@ pub record Reached (left rest written now : Option (List ℕ)) (status : Status)
   pub read : IsReadTo status ended taken expressions told
   pub within : status ≢ TooMuch → length taken ≤ max_input
   pub no_write_fault : status ≢ WriteFault
+  pub no_bad_words : status ≢ BadWords
   pub grown : Grows written now (texts told)
 
 -- a write failed: a front of the texts is written
@@ -93,6 +94,10 @@ abbrev pub Came : {E : Type 0} → Option (List ℕ) → Option (List ℕ) → O
 Came left rest written now (Ok status) = Reached left rest written now status
 Came left rest written now (Err e) = Broken left rest written now
 
+-- there were words that are not understood, and nothing was read or written
+abbrev pub IsUnread : {E : Type 0} → Option (List ℕ) → Option (List ℕ) → Option (List ℕ) → Option (List ℕ) → Result Status E → Type 0
+IsUnread left rest written now result = (result ≡ Ok BadWords) × (rest ≡ left) × (now ≡ written)
+
 -- what answering the whole expressions comes to
 abbrev pub Stops : {E : Type 0} → Option (List ℕ) → Option (List ℕ) → Option (List ℕ) → Option (List ℕ) → Unread → Desk → Result Stop E → Type 0
 Stops left rest written now unread desk (Ok stop.Hungry) = Underway left rest written now unread desk × IsHungry unread
@@ -103,9 +108,9 @@ Stops left rest written now unread desk (Err e) = Broken left rest written now
 pub record AnswersOne {E : Type 0} (old new : Desk) (e : Sexp) (written now : Option (List ℕ)) (result : Result (Unit {0}) E) : Type 0 where
   pub report : Report
   pub names : Grown old.names new.names
-  pub distinct : HasDistinctRows old.names → HasDistinctRows new.names
+  pub distinct : HasDistinctRows new.names
   pub answers : Answers new.names old.goals e report new.goals
-  pub clean : new.all_valid ≡ (old.all_valid && is_valid_report report)
+  pub clean : new.all_proved ≡ (old.all_proved && is_proved_report report)
   pub few : new.goals ≤ old.goals + 1
   pub put : Puts written now result (report_text new.names report)
 
@@ -132,7 +137,7 @@ StopsByCount (Ok (stop.Ended status)) before now = IsCounted status before now
 StopsByCount (Ok stop.Hungry) before now = now ≡ before
 StopsByCount (Err e) before now = now ≡ before
 
--- the status of a run that stopped so: at the end of the input it tells whether all is valid
+-- the status of a run that stopped so: at the end of the input it tells whether all is proved
 abbrev pub status_at : Stop → Bool → Status
-status_at (stop.Ended status) all_valid = status
-status_at stop.Hungry all_valid = if all_valid then Proved else Answered
+status_at (stop.Ended status) all_proved = status
+status_at stop.Hungry all_proved = if all_proved then Proved else Answered

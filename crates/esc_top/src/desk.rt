@@ -1,23 +1,29 @@
 //! Answers expressions one by one.
 
-ghost use Rattle.std.specs.Prelude.{◌≡◌, ◌+◌, ◌<◌, ◌≤◌, ◌^◌, true, IfOk};
+ghost use Rattle.std.specs.Prelude.{◌≡◌, ◌+◌, ◌<◌, ◌≤◌, ◌^◌, [], ◌∷◌, true, IfOk, IsTrue};
 ghost use Rattle.esc_io.specs.Faults.{HasCause};
-ghost use Rattle.esc_top.specs.Answers.{AreNames, Answers, Reports};
-ghost use Rattle.esc_top.specs.Goals.{IsEquation, IsNamed, place_of};
-ghost use Rattle.esc_sexp.specs.declared.sexp.Sexp.{Sexp};
+ghost use Rattle.esc_assume.specs.Supported.{is_supported};
+ghost use Rattle.esc_form.specs.declared.command.Kind.TheVariants as kind;
+ghost use Rattle.esc_form.specs.Laws.{IsClosedKind};
 ghost use Rattle.esc_names.specs.Numbering.{first_names};
 ghost use Rattle.esc_names.specs.Rows.{HasDistinctRows};
-ghost use Rattle.esc_top.specs.Told.{Grown, is_valid_report};
+ghost use Rattle.esc_read.specs.Tokens.{place_of};
+ghost use Rattle.esc_sexp.specs.declared.sexp.Sexp.{Sexp};
+ghost use Rattle.esc_term.specs.declared.formula.Formula.TheVariants as formula;
+ghost use Rattle.esc_term.specs.Formula.{is_closed};
+ghost use Rattle.esc_top.specs.Answers.{Answers, IsCommand, Reports};
+ghost use Rattle.esc_top.specs.Told.{Grown, is_proved_report};
 ghost use Rattle.esc_top.specs.Underway.{AnswersOne};
 
-use crate::decide::{Verdict, decide, negated_equation};
-use crate::goal::{equation_of, place_of};
+use esc_form::{FormStop, Kind, read_command, reading_laws};
 use esc_io::{Failed, Sink};
 use esc_names::Names;
+use esc_plain::{Verdict, decide, is_supported};
+use esc_read::place_of;
 use esc_report::{Refusal, Report, put_report};
 use esc_sexp::Sexp;
-use esc_term::{Head, Term};
-use sqlite_items::Items;
+use esc_term::{Formula, Formulas};
+use sqlite_items::{Boxed, Items};
 use std::alloc::{AllocError, Global};
 
 /// What is kept from one expression to the next.
@@ -28,28 +34,36 @@ pub struct Desk {
     pub names: Names,
     /// How many goals were counted so far.
     pub goals: u64,
-    /// Whether each report so far says that a goal is valid.
-    pub all_valid: bool,
+    /// Whether each report so far says that a goal is valid or a command carried out.
+    pub all_proved: bool,
 }
 
-fn is_valid_report(report: &Report) -> bool
-    ensures { result ≡ is_valid_report report.now }
+fn is_proved_report(report: &Report) -> bool
+    ensures { result ≡ is_proved_report report.now }
 {
-    matches!(report, Report::Valid { .. })
+    matches!(report, Report::Valid { .. } | Report::Done)
 }
 
-// The report on a goal whose sides are these.
-fn report_of(alloc: Global, goal: u64, left: Term, right: Term) -> Result<Report, AllocError>
-    requires names { AreNames left right }
-    ensures { IfOk result (λ r. Reports goal left right r) }
+// The negated goal alone.
+fn negated(alloc: Global, goal: Formula) -> Result<Formulas, AllocError>
+    ensures { IfOk result (λ formulas. formulas ≡ formula.Not goal ∷ []) }
 {
-    match decide(alloc, &left, &right)? {
-        Verdict::Refuted => {
-            let negated = negated_equation(alloc, left, right)?;
-            let mut formulas = Items::new(alloc);
-            formulas.push(negated)?;
-            Ok(Report::Valid { goal, formulas })
-        }
+    let mut formulas = Items::new(alloc);
+    formulas.push(Formula::Not(Boxed::new(alloc, goal)?))?;
+    Ok(formulas)
+}
+
+// The report on the goal with this number.
+fn report_of(alloc: Global, goal: u64, formula: Formula) -> Result<Report, AllocError>
+    requires closed { IsTrue (is_closed formula) }
+    requires supported { IsTrue (is_supported formula) }
+    ensures { IfOk result (λ r. Reports goal formula r) }
+{
+    match decide(alloc, &formula)? {
+        Verdict::Refuted => Ok(Report::Valid {
+            goal,
+            formulas: negated(alloc, formula)?,
+        }),
         Verdict::Open(found) => Ok(Report::Invalid { goal, found }),
     }
 }
@@ -58,58 +72,33 @@ impl Desk {
     pub fn new(alloc: Global) -> Result<Desk, AllocError>
         ensures names { IfOk result (λ desk. desk.names ≡ first_names) }
         ensures goals { IfOk result (λ desk. desk.goals ≡ 0) }
-        ensures clean { IfOk result (λ desk. desk.all_valid ≡ true) }
+        ensures clean { IfOk result (λ desk. desk.all_proved ≡ true) }
     {
         let names = Names::new(alloc)?;
         Ok(Desk {
             alloc,
             names,
             goals: 0,
-            all_valid: true,
+            all_proved: true,
         })
     }
 
-    // The term of a name, which is numbered where it is new.
-    fn term_of(&mut self, text: &[u8]) -> Result<Term, AllocError>
-        ensures named { IfOk result (λ t. IsNamed self.new.names text.now t) }
-        ensures names { Grown self.old.names self.new.names }
-        ensures distinct { HasDistinctRows self.old.names → HasDistinctRows self.new.names }
-        ensures goals { self.new.goals ≡ self.old.goals }
-        ensures clean { self.new.all_valid ≡ self.old.all_valid }
-    {
-        let number = self.names.number(text)?;
-        Ok(Term::App(Head::Name(number), Items::new(self.alloc)))
-    }
-
-    // The terms of the two sides, with their names in the table.
-    fn sides_of(&mut self, left: &[u8], right: &[u8]) -> Result<(Term, Term), AllocError>
-        ensures left { IfOk result (λ sides. IsNamed self.new.names left.now sides.0) }
-        ensures right { IfOk result (λ sides. IsNamed self.new.names right.now sides.1) }
-        ensures names { Grown self.old.names self.new.names }
-        ensures distinct { HasDistinctRows self.old.names → HasDistinctRows self.new.names }
-        ensures goals { self.new.goals ≡ self.old.goals }
-        ensures clean { self.new.all_valid ≡ self.old.all_valid }
-    {
-        let left = self.term_of(left)?;
-        let right = self.term_of(right)?;
-        Ok((left, right))
-    }
-
-    // Counts a goal and answers it.
-    fn answer_goal(&mut self, left: &[u8], right: &[u8], place: u64) -> Report
+    // Counts a goal and answers it, where its form is answered.
+    fn answer_goal(&mut self, formula: Formula, place: u64) -> Report
         requires few { self.old.goals < 2 ^ 63 }
-        ensures answers { (e : Sexp) → IsEquation e left.now right.now → place ≡ place_of e → Answers self.new.names self.old.goals e result self.new.goals }
-        ensures names { Grown self.old.names self.new.names }
-        ensures distinct { HasDistinctRows self.old.names → HasDistinctRows self.new.names }
+        requires closed { IsTrue (is_closed formula) }
+        ensures answers { (e : Sexp) → IsCommand self.old.names e (kind.Goal formula) → place ≡ place_of e → Answers self.old.names self.old.goals e result self.new.goals }
+        ensures names { self.new.names ≡ self.old.names }
         ensures counted { self.new.goals ≤ self.old.goals + 1 }
-        ensures clean { self.new.all_valid ≡ self.old.all_valid }
+        ensures clean { self.new.all_proved ≡ self.old.all_proved }
     {
-        let Ok((left, right)) = self.sides_of(left, right) else {
-            return Report::Memory { goal: None, place };
-        };
+        if !is_supported(&formula) {
+            let why = Refusal::Unsupported;
+            return Report::Refused { place, why };
+        }
         self.goals += 1;
         let goal = self.goals;
-        match report_of(self.alloc, goal, left, right) {
+        match report_of(self.alloc, goal, formula) {
             Ok(report) => report,
             Err(_) => Report::Memory {
                 goal: Some(goal),
@@ -118,21 +107,46 @@ impl Desk {
         }
     }
 
+    // Answers the command at this place.
+    fn answer_command(&mut self, kind: Kind, place: u64) -> Report
+        requires few { self.old.goals < 2 ^ 63 }
+        requires closed { IsClosedKind kind }
+        ensures answers { (e : Sexp) → IsCommand self.old.names e kind → place ≡ place_of e → Answers self.old.names self.old.goals e result self.new.goals }
+        ensures names { self.new.names ≡ self.old.names }
+        ensures counted { self.new.goals ≤ self.old.goals + 1 }
+        ensures clean { self.new.all_proved ≡ self.old.all_proved }
+    {
+        match kind {
+            Kind::Goal(formula) => self.answer_goal(formula, place),
+            Kind::Prompt => Report::Done,
+            Kind::Push(_) | Kind::Pop | Kind::Define { .. } => Report::Refused {
+                place,
+                why: Refusal::Unsupported,
+            },
+        }
+    }
+
     fn answer(&mut self, sexp: &Sexp) -> Report
         requires few { self.old.goals < 2 ^ 63 }
         ensures answers { Answers self.new.names self.old.goals sexp.now result self.new.goals }
         ensures names { Grown self.old.names self.new.names }
-        ensures distinct { HasDistinctRows self.old.names → HasDistinctRows self.new.names }
+        ensures distinct { HasDistinctRows self.new.names }
         ensures counted { self.new.goals ≤ self.old.goals + 1 }
-        ensures clean { self.new.all_valid ≡ self.old.all_valid }
+        ensures clean { self.new.all_proved ≡ self.old.all_proved }
     {
-        let place = place_of(sexp);
-        match equation_of(sexp) {
-            None => Report::Refused {
-                place,
-                why: Refusal::Unsupported,
+        reading_laws();
+        let read = read_command(self.alloc, sexp, &mut self.names);
+        self.names.rows_differ();
+        match read {
+            Ok(command) => self.answer_command(command.kind, place_of(sexp)),
+            Err(FormStop::Fault(fault)) => Report::Refused {
+                place: fault.place,
+                why: Refusal::Form(fault.kind),
             },
-            Some((left, right)) => self.answer_goal(left, right, place),
+            Err(FormStop::Memory) => Report::Memory {
+                goal: None,
+                place: place_of(sexp),
+            },
         }
     }
 
@@ -143,7 +157,7 @@ impl Desk {
         ensures cause { HasCause (K.faults sink.old) (K.faults sink.new) result }
     {
         let report = self.answer(sexp);
-        self.all_valid = self.all_valid && is_valid_report(&report);
+        self.all_proved = self.all_proved && is_proved_report(&report);
         put_report(&report, &self.names, sink)
     }
 }

@@ -155,16 +155,17 @@ pub fn answer_input<S: Source, K: Sink>(
     };
     let mut reader = Reader::new(alloc);
     let stop = answer_pieces(&mut piece, source, &mut reader, &mut desk, sink)?;
-    Ok(status_at(stop, desk.all_valid))
+    Ok(status_at(stop, desk.all_proved))
 }
 
-// How a run ended that stopped so: at the end of the input it is told whether each report says that a goal is valid.
-fn status_at(stop: Stop, all_valid: bool) -> Status
-    ensures { result ≡ status_at stop all_valid }
+// How a run ended that stopped so: at the end of the input it is told whether each report says that a goal is
+// valid or a command carried out.
+fn status_at(stop: Stop, all_proved: bool) -> Status
+    ensures { result ≡ status_at stop all_proved }
 {
     match stop {
         Stop::Ended(status) => status,
-        Stop::Hungry if all_valid => Status::Proved,
+        Stop::Hungry if all_proved => Status::Proved,
         Stop::Hungry => Status::Answered,
     }
 }

@@ -1,9 +1,7 @@
 //! The whole program as one call: commands are read from a source, and their answers are written to a sink.
 #![tactic(auto)]
 
-mod decide;
 mod desk;
-mod goal;
 mod input;
 mod status;
 mod top;

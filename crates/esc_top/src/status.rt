@@ -13,10 +13,12 @@ use itoa::Buffer;
 /// How a run ended.
 #[derive(Clone, Copy, Debug, PartialEq, Eq)]
 pub enum Status {
-    /// The input was read to its end, and each report says that a goal is valid.
+    /// The input was read to its end, and each report says that a goal is valid or a command carried out.
     Proved,
     /// The input was read to its end, and some report says otherwise.
     Answered,
+    /// The command line has words that are not understood, and nothing was read.
+    BadWords,
     /// The input has this fault.
     Syntax(SexpFault),
     /// The source failed.
@@ -37,6 +39,7 @@ impl Status {
         match self {
             Status::Proved => 0,
             Status::Answered => 1,
+            Status::BadWords => 2,
             Status::Syntax(_) => 3,
             Status::ReadFault => 4,
             Status::WriteFault => 5,
@@ -104,6 +107,7 @@ pub fn put_last_line<K: Sink>(status: Status, sink: &mut K) -> Result<(), Failed
 {
     match status {
         Status::Proved | Status::Answered | Status::WriteFault => put_all(sink, b""),
+        Status::BadWords => put_all(sink, b"usage: simplify\n"),
         Status::Syntax(fault) => put_fault(fault, sink),
         Status::ReadFault => put_all(sink, b"Read fault.\n"),
         Status::Memory => put_all(sink, b"Out of memory.\n"),

@@ -1,10 +1,11 @@
 //! The call that does all that the program does.
 
-ghost use Rattle.std.specs.Prelude.{◌≡◌, ◌≢◌};
+ghost use Rattle.std.specs.Prelude.{◌≡◌, ◌≢◌, ◌<◌, ◌≤◌, length};
 ghost use Rattle.esc_io.specs.Faults.{HasCause, Rose};
 ghost use Rattle.esc_io.specs.Putting.{Puts};
 ghost use Rattle.esc_top.specs.LastLine.{last_line};
 ghost use Rattle.esc_top.specs.Ran.{Ran};
+ghost use Rattle.esc_top.specs.Underway.{Came, EndsByCount, IsUnread};
 
 use crate::input::answer_input;
 use crate::status::{Status, put_last_line};
@@ -20,19 +21,38 @@ fn finish<K: Sink>(status: Status, sink: &mut K) -> Result<(), Failed>
     sink.flush()
 }
 
+// Answers the input, where there are no words behind the program's name.
+fn answer<S: Source, K: Sink>(
+    alloc: Global,
+    words: &[String],
+    source: &mut S,
+    sink: &mut K,
+) -> Result<Status, Failed>
+    ensures unread { 1 < length words.now → IsUnread (S.left source.old) (S.left source.new) (K.written sink.old) (K.written sink.new) result }
+    ensures told { length words.now ≤ 1 → Came (S.left source.old) (S.left source.new) (K.written sink.old) (K.written sink.new) result }
+    ensures cause { HasCause (K.faults sink.old) (K.faults sink.new) result }
+    ensures reads { EndsByCount result (S.faults source.old) (S.faults source.new) }
+{
+    if words.len() > 1 {
+        return Ok(Status::BadWords);
+    }
+    answer_input(alloc, source, sink)
+}
+
 /// Reads commands from the source up to its end, and writes the answers to the sink in order. The words are those of the
-/// command line, of which the first is the program's name.
+/// command line, of which the first is the program's name. No others are understood: where there are more, nothing is
+/// read.
 ///
 /// Each answer is written and flushed before more is read, and the sink is flushed at the end; no clause says so. Where
 /// source or sink do not tell their bytes, only what is said of their faults holds of them.
 pub fn run<S: Source, K: Sink>(
     alloc: Global,
-    _words: &[String],
+    words: &[String],
     source: &mut S,
     sink: &mut K,
 ) -> Status
-    // Each goal is answered in order.
-    ensures ran { Ran (S.left source.old) (S.left source.new) (K.written sink.old) (K.written sink.new) (S.faults source.old) (S.faults source.new) result }
+    // Each expression is answered in order.
+    ensures ran { Ran (length words.now) (S.left source.old) (S.left source.new) (K.written sink.old) (K.written sink.new) (S.faults source.old) (S.faults source.new) result }
 
     // A fault is told only where source or sink had one. A fault of the sink is always told, and one of the source
     // unless the sink fails behind it.
@@ -41,7 +61,7 @@ pub fn run<S: Source, K: Sink>(
     ensures writes { result ≡ Status.WriteFault → Rose (K.faults sink.old) (K.faults sink.new) }
     ensures no_write_fault { result ≢ Status.WriteFault → K.faults sink.new ≡ K.faults sink.old }
 {
-    let Ok(status) = answer_input(alloc, source, sink) else {
+    let Ok(status) = answer(alloc, words, source, sink) else {
         return Status::WriteFault;
     };
     match finish(status, sink) {

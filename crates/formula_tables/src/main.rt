@@ -17,30 +17,11 @@ mod reading;
 mod tasks;
 
 use crate::tasks::line_of;
-use esc_io::{Source, StdSink, StdSource, put_all};
+use esc_io::{StdSink, StdSource, put_all};
 use esc_names::Names;
 use esc_sexp::Reader;
+use esc_tables::{ROOM, read_table};
 use std::alloc::{AllocError, Global};
-
-/// The most bytes of the table.
-const ROOM: usize = 65_536;
-
-/// Fills the front of the room with what the source has, and tells how much that is. A fault counts as the end.
-fn read_table<S: Source>(source: &mut S, room: &mut [u8]) -> usize
-    ensures { result ≤ length room.old }
-{
-    let mut filled = 0;
-    'pieces: for _ in 0..ROOM {
-        if filled == room.len() {
-            break 'pieces;
-        }
-        match source.read(&mut room[filled..]) {
-            Ok(0) | Err(_) => break 'pieces,
-            Ok(count) => filled += count,
-        }
-    }
-    filled
-}
 
 /// The lines that answer the tasks of a table.
 fn answer_all(alloc: Global, table: &[u8]) -> Result<Vec<u8>, AllocError>
@@ -61,16 +42,13 @@ fn answer_all(alloc: Global, table: &[u8]) -> Result<Vec<u8>, AllocError>
     Ok(lines)
 }
 
-fn answer<S: Source>(alloc: Global, source: &mut S) -> Result<Vec<u8>, AllocError> {
-    let mut room = Vec::from_elem(alloc, 0u8, ROOM)?;
-    let filled = read_table(source, &mut room);
-    answer_all(alloc, &room[..filled])
-}
-
 fn main(rt: HostRuntime) {
     let mut source = StdSource::new(rt.stdin());
     let mut sink = StdSink::new(rt.stdout());
-    let Ok(lines) = answer(rt.alloc(), &mut source) else {
+    let Ok(table) = read_table(rt.alloc(), &mut source) else {
+        return;
+    };
+    let Ok(lines) = answer_all(rt.alloc(), table.as_slice()) else {
         return;
     };
     let _ = put_all(&mut sink, lines.as_slice());

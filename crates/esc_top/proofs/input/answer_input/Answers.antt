@@ -32,4 +32,4 @@ returns-clause-reads g c =
     let before = g.S.Source.faults c.args.source.now in
     let now = g.S.Source.faults c.answer_pieces.new.source in
     subst (λ (status : Status). EndsByCount {E = Failed} (Ok status) before now) (sym c.status_at.ensures)
-    (count_at Failed Failed c.in_ok-stop.stop c.answer_pieces.new.desk.all_valid before now c.in_ok-stop.ensures.reads)
+    (count_at Failed Failed c.in_ok-stop.stop c.answer_pieces.new.desk.all_proved before now c.in_ok-stop.ensures.reads)

@@ -1,4 +1,4 @@
-use Rattle.std.proofs.Common.{◌≡◌, ◌∙◌, ◌+◌, ◌++◌, ℕ, List, Ok, ap, arith, false, length, length-append, refl, subst, sym, true}
+use Rattle.std.proofs.Common.{◌≡◌, ◌∙◌, ◌++◌, ℕ, ap, arith, length, length-append, subst, true}
 use Rattle.esc_io.specs.declared.faults.Failed.{Failed}
 use Rattle.esc_sexp.specs.Unread.{Unread}
 use Rattle.esc_top.specs.Ran.{IsCounted}

@@ -1,4 +1,4 @@
-use Rattle.std.proofs.Common.{◌≡◌, ◌+◌, ◌≤◌, ◌∙◌, Err, ap, arith, length, refl, sym}
+use Rattle.std.proofs.Common.{◌≡◌, ◌∙◌, Err, ap, arith}
 use Rattle.esc_sexp.proofs.Exact.{takes_bytes}
 use Rattle.esc_top.proofs.ReadingLemmas.{hungry}
 use Rattle.esc_top.proofs.UnderwayLemmas.{broken_told, reached_memory, reached_syntax, stops_broken, stops_count, underway_forgot, underway_told}

@@ -1,17 +1,17 @@
-use Rattle.std.proofs.Common.{◌+◌, ap}
-use Rattle.esc_top.proofs.Goaling.{answers_by, lacks_memory}
+use Rattle.std.proofs.Common.{◌+◌, refl, sym, ◌∙◌}
+use Rattle.esc_top.proofs.Commands.{answers_goal, lacks_memory, refuses_goal}
 use Rattle.esc_top.proofs.desk.Desk.answer_goal.Goals as goal
 
-pub returns-in-Ok-report_of-clause-answers : goal.returns-in-Ok-report_of-clause-answers
-returns-in-Ok-report_of-clause-answers c = λ e equation place.
-    let counted = ap (λ n. n + 1) c.sides_of.ensures.goals in
-    answers_by c.sides_of.new.self.names c.args.self.now.goals e c.args.left.now c.args.right.now c.in-Ok.left c.in-Ok.right
-    (c.sides_of.new.self.goals + 1) (c.sides_of.new.self.goals + 1) c.in-Ok-report_of.report
-    equation c.in-Ok.ensures.left c.in-Ok.ensures.right counted counted c.in-Ok-report_of.ensures
+pub returns-then-not-is_supported-clause-answers : goal.returns-then-not-is_supported-clause-answers
+returns-then-not-is_supported-clause-answers c = λ e is_goal place.
+    refuses_goal c.args.self.now.names c.args.self.now.goals c.args.place e c.args.formula is_goal (sym c.is_supported.ensures ∙ c.if-not-is_supported.true) place
+
+pub returns-in-Ok-clause-answers : goal.returns-in-Ok-clause-answers
+returns-in-Ok-clause-answers c = λ e is_goal place.
+    answers_goal c.args.self.now.names c.args.self.now.goals (c.args.self.now.goals + 1) (c.args.self.now.goals + 1) e c.args.formula c.in-Ok.report
+    is_goal (sym c.is_supported.ensures ∙ c.if-not-is_supported.false) refl refl c.in-Ok.ensures
 
 pub returns-in-Err-clause-answers : goal.returns-in-Err-clause-answers
-returns-in-Err-clause-answers c = λ e equation place.
-    let counted = ap (λ n. n + 1) c.sides_of.ensures.goals in
-    lacks_memory c.sides_of.new.self.names c.args.self.now.goals e c.args.left.now c.args.right.now c.in-Ok.left c.in-Ok.right
-    (c.sides_of.new.self.goals + 1) (c.sides_of.new.self.goals + 1) c.args.place
-    equation c.in-Ok.ensures.left c.in-Ok.ensures.right counted counted place
+returns-in-Err-clause-answers c = λ e is_goal place.
+    lacks_memory c.args.self.now.names c.args.self.now.goals (c.args.self.now.goals + 1) (c.args.self.now.goals + 1) c.args.place e c.args.formula
+    is_goal (sym c.is_supported.ensures ∙ c.if-not-is_supported.false) refl refl place

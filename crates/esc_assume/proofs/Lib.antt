@@ -1,0 +1,10 @@
+pub mod Answering
+pub mod Composing
+pub mod Falling
+pub mod InOrder
+pub mod ListLemmas
+pub mod Parts
+pub mod SizeLevels
+pub mod Split
+pub mod SupportedLevels
+pub mod Taken

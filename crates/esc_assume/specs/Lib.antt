@@ -1,0 +1,6 @@
+pub mod Assumed
+pub mod Assuming
+pub mod Clauses
+pub mod Sizes
+pub mod Supported
+pub mod Views

@@ -1,0 +1,4 @@
+pub mod BranchUndo
+pub mod Starting
+pub mod Steps
+pub mod View

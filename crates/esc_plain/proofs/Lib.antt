@@ -1,0 +1,8 @@
+pub mod SideItems
+pub mod Coverage
+pub mod Free
+pub mod Growth
+pub mod NegatedGoal
+pub mod Opening
+pub mod Passing
+pub mod Splitting

@@ -1,0 +1,4 @@
+pub mod Search
+pub mod Stage
+pub mod Steps
+pub mod Verdicts

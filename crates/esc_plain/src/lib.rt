@@ -1,0 +1,13 @@
+//! A plain search for a branch on which a goal fails.
+#![tactic(auto)]
+
+mod assuming;
+mod deciding;
+mod reading;
+mod searching;
+
+pub use deciding::{Verdict, decide};
+pub use esc_assume::is_supported;
+
+#[cfg(test)]
+mod tests;
