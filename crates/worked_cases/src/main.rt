@@ -4,7 +4,7 @@
 //! and in pieces of seven. What the runs write is printed, and the code that they end with; or that they differ.
 #![tactic(auto)]
 
-ghost use Rattle.std.specs.Prelude.{◌≤◌, length};
+ghost use Rattle.std.specs.Prelude.{◌≤◌, length, IfSome};
 
 use esc_io::{MemSink, MemSource, StdSink, StdSource, put_all};
 use esc_tables::{ROOM, read_table};
@@ -54,11 +54,11 @@ fn add_outcome(alloc: Global, input: &[u8], lines: &mut Vec<u8>) -> Result<(), A
     lines.extend_from_slice(END)
 }
 
-/// Where the input ends that begins at a place of the table. `None` where no line ends it.
-fn end_of(table: &[u8], start: usize) -> Option<usize>
-    requires { start ≤ length table.now }
+/// Where the first input of the table ends. `None` where no line ends it.
+fn end_of(table: &[u8]) -> Option<usize>
+    ensures { IfSome result (λ end. end ≤ length table.now) }
 {
-    'places: for place in start..table.len() {
+    'places: for place in 0..table.len() {
         if table[place..].starts_with(END) {
             return Some(place);
         }
@@ -71,14 +71,15 @@ fn answer_all(alloc: Global, table: &[u8]) -> Result<Vec<u8>, AllocError> {
     let mut lines = Vec::new(alloc);
     let mut rest = table;
     'inputs: for _ in 0..ROOM {
-        let Some(end) = end_of(rest, 0) else {
+        let Some(end) = end_of(rest) else {
             break 'inputs;
         };
-        if end + END.len() > rest.len() {
+        add_outcome(alloc, &rest[..end], &mut lines)?;
+        let behind = &rest[end..];
+        if behind.len() < END.len() {
             break 'inputs;
         }
-        add_outcome(alloc, &rest[..end], &mut lines)?;
-        rest = &rest[end + END.len()..];
+        rest = &behind[END.len()..];
     }
     Ok(lines)
 }
