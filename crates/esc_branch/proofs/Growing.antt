@@ -24,7 +24,7 @@ use Rattle.esc_branch.specs.View.{IsBranch, classes_in, literals_in, same_in, te
 use Rattle.esc_branch.proofs.Agreeing.{IsTold}
 use Rattle.esc_branch.proofs.Finest.{congruence_in, together_in}
 use Rattle.esc_branch.proofs.NodeTests.{of_together_at}
-use Rattle.esc_branch.proofs.Ordered.{with_once-absent, with_once-there}
+use Rattle.esc_branch.proofs.Once.{with_once-absent, with_once-there}
 use Rattle.esc_branch.proofs.Outcomes.{is_branch}
 use Rattle.esc_branch.proofs.Together.{Contains-term_of, length-terms_of, node_of_term, same_in-equivalence}
 
@@ -48,18 +48,28 @@ new_term nodes s are h =
     (terms_stay nodes (s ∷ []) at.0 at.1 ∙ (at.2 ∙ sym (term_of-push nodes s))) in
     omega (arith, at.1, one)
 
+known_term : (old : Graph) (s : Shape) (node : ℕ) → AreTerms old.nodes → node < length old.nodes → shape_at old.nodes node ≡ s →
+    term_of old.nodes node ≡ built (term_of old.nodes) s.top s.args
+known_term old s node are there is = terms_are_built old.nodes are node there ∙ ap (λ (x : Shape). built (term_of old.nodes) x.top x.args) is
+
 pub terms_grown : (old new : Graph) (s : Shape) (node : ℕ) → IsGraph new → IsKnown old new s node ⊎ IsMade old new s node →
     terms_of new.nodes ≡ with_once (terms_of old.nodes) (built (term_of old.nodes) s.top s.args)
 terms_grown old new s node sound (inl known) =
-    let are : AreTerms old.nodes = subst (λ (g : Graph). AreTerms g.nodes) known.same sound.terms in
-    let is : term_of old.nodes node ≡ built (term_of old.nodes) s.top s.args =
-    terms_are_built old.nodes are node known.there ∙ ap (λ (x : Shape). built (term_of old.nodes) x.top x.args) known.is in
+    let is = known_term old s node (subst (λ (g : Graph). AreTerms g.nodes) known.same sound.terms) known.there known.is in
     ap (λ (g : Graph). terms_of g.nodes) known.same
     ∙ sym (with_once-there (terms_of old.nodes) (built (term_of old.nodes) s.top s.args)
     (subst (Contains (terms_of old.nodes)) is (Contains-term_of old.nodes node known.there)))
 terms_grown old new s node sound (inr made) =
     ap terms_of made.nodes ∙ (terms_of-push old.nodes s
     ∙ sym (with_once-absent (terms_of old.nodes) (built (term_of old.nodes) s.top s.args) (new_term old.nodes s (subst AreTerms made.nodes sound.terms))))
+
+pub term_grown : (old new : Graph) (s : Shape) (node : ℕ) → IsGraph new → IsKnown old new s node ⊎ IsMade old new s node →
+    term_of new.nodes node ≡ built (term_of old.nodes) s.top s.args
+term_grown old new s node sound (inl known) =
+    ap (λ (g : Graph). term_of g.nodes node) known.same
+    ∙ known_term old s node (subst (λ (g : Graph). AreTerms g.nodes) known.same sound.terms) known.there known.is
+term_grown old new s node sound (inr made) =
+    ap (λ nodes. term_of nodes node) made.nodes ∙ (ap (term_of (old.nodes ++ (s ∷ []))) made.last ∙ term_of-push old.nodes s)
 
 -- ---- each node is a class by itself
 

@@ -2,13 +2,14 @@ pub mod Agreeing
 pub mod Apart
 pub mod BranchNotes
 pub mod ClassTerms
+pub mod Falling
 pub mod Finest
 pub mod Growing
 pub mod InPlay
 pub mod Leaders
 pub mod LiteralForms
 pub mod NodeTests
-pub mod Ordered
+pub mod Once
 pub mod Outcomes
 pub mod Passing
 pub mod Places
@@ -18,3 +19,4 @@ pub mod Telling
 pub mod Together
 pub mod TwoPlaces
 pub mod Values
+pub mod Walking

@@ -8,7 +8,7 @@ use crate::record::BranchRec;
 use esc_distinct::Groups;
 use esc_egraph::{EGraph, Top};
 use esc_report::Literals;
-use esc_term::{Formula, Head, Sym, ground_terms};
+use esc_term::{Formula, Head, Sym};
 use esc_trail::{Trail, Undoable};
 use std::alloc::{AllocError, Global};
 
@@ -56,8 +56,7 @@ impl Branch {
     {
         let mut branch = Branch::bare(alloc);
         branch.add_node(Top::App(Head::Name(Sym::TRUE)), &[], trail)?;
-        let terms = ground_terms(alloc, formula)?;
-        branch.add_terms(terms.as_slice(), trail)?;
+        branch.add_formula(formula, trail)?;
         graph_is_sound(&branch.graph);
         Ok(branch)
     }
