@@ -1,4 +1,4 @@
-use crate::{FormKind, FormStop, Kind, read_command};
+use crate::{Kind, read_command};
 use esc_names::Names;
 use esc_sexp::{Reader, Sexp};
 use std::alloc::Global;
@@ -42,29 +42,4 @@ fn reads_a_predicate_with_its_rule(rt: HostRuntime) -> Result<(), Fail> {
         }
         _ => Err("no definition".into()),
     }
-}
-
-#[test]
-fn tells_the_first_refusal_with_its_place(rt: HostRuntime) -> Result<(), Fail> {
-    let alloc = rt.alloc();
-    let mut names = Names::new(alloc)?;
-    let rows: [(&[u8], FormKind, u64); 8] = [
-        (b"(EQ a)", FormKind::WrongCount, 0),
-        (b"(LET a)", FormKind::NotAFormula, 1),
-        (b"(EQ (AND) a)", FormKind::NotATerm, 5),
-        (b"(EQ 9223372036854775808 a)", FormKind::NumberTooLarge, 4),
-        (b"(EQ |@sk.0.0| a)", FormKind::ReservedName, 4),
-        (b"(FORALL (x x) TRUE)", FormKind::DuplicateVariable, 11),
-        (b"(NOT (PATS a))", FormKind::MisplacedPattern, 6),
-        (b" ()", FormKind::EmptyList, 1),
-    ];
-    for (text, kind, place) in rows {
-        let sexp = expression(alloc, text)?;
-        let Err(FormStop::Fault(fault)) = read_command(alloc, &sexp, &mut names) else {
-            return Err("no refusal".into());
-        };
-        assert!(rt; fault.kind == kind);
-        assert_eq!(rt; fault.place, place);
-    }
-    Ok(())
 }
