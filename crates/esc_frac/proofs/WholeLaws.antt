@@ -1,5 +1,5 @@
 -- Whole numbers among the rational ones, and the parts of a negative.
-use Rattle.std.proofs.Common.{◌≡◌, ◌↔◌, ◌*◌, ◌/◌, ◌<◌, ◌^◌, ℕ, ℤ, pos, ◌+ℤ◌, ◌-ℤ◌, ◌*ℤ◌, neg_ℤ, ◌≤ℤ◌, unsigned_abs, sym, ap, ap₂, ◌∙◌, subst, subst₂, arith}
+use Rattle.std.proofs.Common.{◌≡◌, ◌↔◌, ◌*◌, ◌/◌, ◌<◌, ◌^◌, ℕ, ℤ, pos, ◌+ℤ◌, ◌-ℤ◌, ◌*ℤ◌, neg_ℤ, ◌≤ℤ◌, sym, ap, ap₂, ◌∙◌, subst, arith}
 use Rattle.std.proofs.lemmas.Int.{ints}
 use Rattle.esc_frac.specs.Gcd.{gcd}
 use Rattle.esc_frac.specs.Integers.{neg_ℤ-*ℤ}
@@ -29,7 +29,12 @@ whole-≤ℚ m n = (λ h. omega (arith, ints), λ h. omega (arith, ints))
 
 -- the negative with its numerator and its denominator
 negated : ℚ → ℚ
-negated q = record { num = neg_ℤ q.num; den = q.den; lowest = (q.lowest.0, ap (λ (n : ℕ). gcd n q.den) (unsigned_abs-neg q.num) ∙ q.lowest.1) }
+negated q = record {
+  num = neg_ℤ q.num;
+  den = q.den;
+  lowest
+      = (q.lowest.0, ap (λ (n : ℕ). gcd n q.den) (unsigned_abs-neg q.num) ∙ q.lowest.1);
+}
 
 neg_ℚ-parts : (q : ℚ) → neg_ℚ q ≡ negated q
 unfolding neg_ℚ negated
@@ -60,8 +65,10 @@ Fits-neg z h = subst (λ (n : ℕ). n < 2 ^ 127) (sym (unsigned_abs-neg z)) h
 Fits-from_neg : (z : ℤ) → Fits (neg_ℤ z) → Fits z
 Fits-from_neg z h = subst (λ (n : ℕ). n < 2 ^ 127) (unsigned_abs-neg z) h
 
-sum_is : (p q : ℚ) → over_common p (neg_ℚ q) +ℤ over_common (neg_ℚ q) p ≡ over_common p q -ℤ over_common q p
-sum_is p q = ap₂ (λ x y. x +ℤ y) (over_common-to_neg_ℚ p q) (over_common-neg_ℚ p q) ∙ plus_neg (over_common p q) (over_common q p)
+sum_is : (p q : ℚ) → over_common p (neg_ℚ q) +ℤ over_common (neg_ℚ q) p
+    ≡ over_common p q -ℤ over_common q p
+sum_is p q = ap₂ (λ x y. x +ℤ y) (over_common-to_neg_ℚ p q) (over_common-neg_ℚ p q)
+    ∙ plus_neg (over_common p q) (over_common q p)
   where
     plus_neg : (x y : ℤ) → x +ℤ neg_ℤ y ≡ x -ℤ y
     plus_neg x y = omega (arith, ints)

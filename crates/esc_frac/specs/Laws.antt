@@ -33,7 +33,8 @@ pub record KeepsWhole : Type 0 where
   pub negative : (n : ℤ) → neg_ℚ (whole n) ≡ whole (neg_ℤ n)
   pub order : (m n : ℤ) → whole m ≤ℚ whole n ↔ (m ≤ℤ n)
 
--- what must fit to subtract: the two numerators over the common denominator, their difference, and that denominator
+-- what must fit to subtract: the two numerators over the common denominator, their difference, and
+-- that denominator
 pub record DifferenceStepsFit (p q : ℚ) : Type 0 where
   pub first : Fits (over_common p q)
   pub second : Fits (over_common q p)

@@ -1,8 +1,7 @@
-use Rattle.std.proofs.Common.{pos, negsuc, ap, arith}
+use Rattle.std.proofs.Common.{pos}
 use Rattle.esc_frac.proofs.FieldLaws.{+ℚ_comm, +ℚ_assoc, +ℚ-zero, +ℚ-neg_ℚ, *ℚ_comm, *ℚ_assoc, *ℚ-one, *ℚ-inverse_ℚ, *ℚ-+ℚ}
 use Rattle.esc_frac.proofs.OrderLaws.{≤ℚ_refl, ≤ℚ_antisymm, ≤ℚ_trans, ≤ℚ_total, <ℚ-not, ≤ℚ-+ℚ, ≤ℚ-*ℚ}
 use Rattle.esc_frac.proofs.WholeLaws.{whole_same, whole-+ℚ, whole-*ℚ, neg_ℚ-whole, whole-≤ℚ}
-use Rattle.esc_frac.specs.Rational.{ℚ}
 use Rattle.esc_frac.proofs.laws.field_laws.Goals as goal
 
 pub returns-clause-field : goal.returns-clause-field

@@ -1,0 +1,10 @@
+use Rattle.std.proofs.Common.{ℕ}
+use Rattle.std.specs.Int.{IsGcd}
+use Rattle.esc_frac.proofs.gcd.gcd_in_64.Given as goal
+
+-- the two numbers at hand have the common divisors of the two that were passed
+abbrev pub invariant-loop-divisor : goal.invariant-loop-divisor
+invariant-loop-divisor l = (g : ℕ) → IsGcd l.divided l.divisor g → IsGcd l.fn.a l.fn.b g
+
+abbrev pub decreases-loop-divisor : goal.decreases-loop-divisor
+decreases-loop-divisor l = l.divisor
