@@ -14,11 +14,13 @@ use Rattle.esc_linear.specs.declared.form.Form.{Form}
 use Rattle.esc_linear.specs.Forms.{constant_form, opaque_form, applied, form_step, form}
 use Rattle.esc_linear.specs.Steps.{Step, applied_steps, steps_step, steps}
 
-pub map-pairs : {X A B : Type 0} (f : X → A) (g : X → B) (xs : List X) → map (λ (p : X × A). g p.0) (map (λ x. (x, f x)) xs) ≡ map g xs
+pub map-pairs : {X A B : Type 0} (f : X → A) (g : X → B) (xs : List X)
+    → map (λ (p : X × A). g p.0) (map (λ x. (x, f x)) xs) ≡ map g xs
 map-pairs f g [] = refl
 map-pairs f g (x ∷ xs) = ap (λ ys. g x ∷ ys) (map-pairs f g xs)
 
-pub second-pairs : {X A : Type 0} (f : X → A) (xs : List X) → map (λ (p : X × A). p.1) (map (λ x. (x, f x)) xs) ≡ map f xs
+pub second-pairs : {X A : Type 0} (f : X → A) (xs : List X)
+    → map (λ (p : X × A). p.1) (map (λ x. (x, f x)) xs) ≡ map f xs
 second-pairs f [] = refl
 second-pairs f (x ∷ xs) = ap (λ ys. f x ∷ ys) (second-pairs f xs)
 
@@ -30,11 +32,13 @@ pub form-Var : (k : ℕ) → form (Var k) ≡ opaque_form (Var k)
 unfolding form roll-Term roll
 form-Var k = para-roll-Term Form form_step (Term-F.Var k)
 
-pub form-App : (head : Head) (args : List Term) → form (App head args) ≡ applied head (opaque_form (App head args)) (map form args)
+pub form-App : (head : Head) (args : List Term) → form (App head args)
+    ≡ applied head (opaque_form (App head args)) (map form args)
 unfolding form roll-Term roll
 form-App head args =
     para-roll-Term Form form_step (Term-F.App head args)
-    ∙ ap₂ (λ ts fs. applied head (opaque_form (App head ts)) fs) (first-pairs form args) (second-pairs form args)
+    ∙ ap₂ (λ ts fs. applied head (opaque_form (App head ts)) fs) (first-pairs form args)
+    (second-pairs form args)
 
 pub steps-Num : (n : ℤ) → steps (Num n) ≡ []
 unfolding steps roll-Term roll
@@ -44,7 +48,8 @@ pub steps-Var : (k : ℕ) → steps (Var k) ≡ []
 unfolding steps roll-Term roll
 steps-Var k = para-roll-Term (List Step) steps_step (Term-F.Var k)
 
-pub steps-App : (head : Head) (args : List Term) → steps (App head args) ≡ applied_steps head (flat_map steps args) (map form args)
+pub steps-App : (head : Head) (args : List Term) → steps (App head args)
+    ≡ applied_steps head (flat_map steps args) (map form args)
 unfolding steps roll-Term roll
 steps-App head args =
     para-roll-Term (List Step) steps_step (Term-F.App head args)

@@ -17,6 +17,7 @@ pub lin-Var : (k : ℕ) → lin (Var k) ≡ unknown (Var k)
 unfolding lin roll-Term roll
 lin-Var k = para-roll-Term Lin lin_step (Term-F.Var k)
 
-pub lin-App : (head : Head) (args : List Term) → lin (App head args) ≡ applied_lin head (map (λ t. (t, lin t)) args)
+pub lin-App : (head : Head) (args : List Term) → lin (App head args)
+    ≡ applied_lin head (map (λ t. (t, lin t)) args)
 unfolding lin roll-Term roll
 lin-App head args = para-roll-Term Lin lin_step (Term-F.App head args)

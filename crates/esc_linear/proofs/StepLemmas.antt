@@ -8,7 +8,8 @@ use Rattle.esc_linear.specs.Steps.{Step, StepFits, AllFit, Answers}
 
 pub AllFit-front : (xs ys : List Step) → AllFit (xs ++ ys) → AllFit xs
 AllFit-front [] ys h = All-nil StepFits
-AllFit-front (x ∷ xs) ys h = All-cons StepFits x xs (All-head StepFits x (xs ++ ys) h) (AllFit-front xs ys (All-tail StepFits x (xs ++ ys) h))
+AllFit-front (x ∷ xs) ys h = All-cons StepFits x xs (All-head StepFits x (xs ++ ys) h)
+    (AllFit-front xs ys (All-tail StepFits x (xs ++ ys) h))
 
 pub AllFit-back : (xs ys : List Step) → AllFit (xs ++ ys) → AllFit ys
 AllFit-back [] ys h = h
@@ -18,28 +19,33 @@ pub AllFit-one : (x : Step) → StepFits x → AllFit (x ∷ [])
 AllFit-one x h = All-cons StepFits x [] h (All-nil StepFits)
 
 -- the rest answers, where the first steps fit
-pub goes_on : {A : Type 0} (r : Result A FormJam) (xs ys : List Step) (v : A) → AllFit xs → Answers r ys v → Answers r (xs ++ ys) v
+pub goes_on : {A : Type 0} (r : Result A FormJam) (xs ys : List Step) (v : A) → AllFit xs
+    → Answers r ys v → Answers r (xs ++ ys) v
 unfolding Answers
 goes_on (Ok x) xs ys v h k = (All-append StepFits xs ys h k.0, k.1)
 goes_on (Err Spill) xs ys v h k = λ all. k (AllFit-back xs ys all)
 goes_on (Err Memory) xs ys v h k = tt
 
 -- memory may always be lacking
-pub no_memory : {A : Type 0} (r : Result A FormJam) (xs : List Step) (v : A) → IsErrAnd r (λ e. e ≡ Memory) → Answers r xs v
+pub no_memory : {A : Type 0} (r : Result A FormJam) (xs : List Step) (v : A)
+    → IsErrAnd r (λ e. e ≡ Memory) → Answers r xs v
 unfolding Answers
 no_memory (Ok x) xs v h = absurd h
 no_memory (Err Spill) xs v h = absurd (cc)
 no_memory (Err Memory) xs v h = tt
 
 -- a step that does not fit
-pub spilled : {A : Type 0} (r : Result A FormJam) (xs : List Step) (v : A) → IsErrAnd r (λ e. e ≡ Spill) → ¬ (AllFit xs) → Answers r xs v
+pub spilled : {A : Type 0} (r : Result A FormJam) (xs : List Step) (v : A)
+    → IsErrAnd r (λ e. e ≡ Spill) → ¬ (AllFit xs) → Answers r xs v
 unfolding Answers
 spilled (Ok x) xs v h k = absurd h
 spilled (Err Spill) xs v h k = k
 spilled (Err Memory) xs v h k = absurd (cc)
 
 -- what stopped the first steps stops the whole
-pub handed_on : {A B : Type 0} (r : Result A FormJam) (s : Result B FormJam) (e : FormJam) (xs ys : List Step) (v : A) (w : B) → IsErrAnd r (λ f. f ≡ e) → s ≡ Err e → Answers s xs w → Answers r (xs ++ ys) v
+pub handed_on : {A B : Type 0} (r : Result A FormJam) (s : Result B FormJam) (e : FormJam)
+    (xs ys : List Step) (v : A) (w : B) → IsErrAnd r (λ f. f ≡ e) → s ≡ Err e → Answers s xs w
+    → Answers r (xs ++ ys) v
 unfolding Answers
 handed_on r (Ok y) e xs ys v w h is k = absurd (cc)
 handed_on (Ok x) (Err f) e xs ys v w h is k = absurd h

@@ -1,4 +1,6 @@
--- Linear forms in numbers of any size: sums, differences and products of forms, and the form of a term. The terms of a form stand in the order of their first occurrence, and those with coefficient 0 are dropped.
+-- Linear forms in numbers of any size: sums, differences and products of forms, and the form of a
+-- term. The terms of a form stand in the order of their first occurrence, and those with
+-- coefficient 0 are dropped.
 use Rattle.std.specs.Prelude.{Bool, true, false, not, nat_lt, if◌then◌else◌, List, [], ◌∷◌, map, length}
 use Rattle.std.specs.List.{filter, fold}
 use Rattle.esc_term.specs.declared.term.Head.{Head}
@@ -32,7 +34,8 @@ with_factor t q ps = if is_zero q then ps else part t q ∷ ps
 -- parts with q times the term more: added to its coefficient, or at the end where it is not there
 unfoldable pub with_part : List Part → Term → ℚ → List Part
 with_part [] t q = with_factor t q []
-with_part (p ∷ ps) t q = if same_term p.term t then with_factor t (p.factor +ℚ q) ps else p ∷ with_part ps t q
+with_part (p ∷ ps) t q = if same_term p.term t then with_factor t (p.factor +ℚ q) ps else p
+    ∷ with_part ps t q
 
 abbrev pub with_one : List Part → Part → List Part
 with_one ps q = with_part ps q.term q.factor
@@ -45,7 +48,11 @@ abbrev pub plus : Form → Form → Form
 plus a b = record { parts = with_parts a.parts b.parts; constant = a.constant +ℚ b.constant }
 
 abbrev pub negative : Form → Form
-negative a = record { parts = map (λ (p : Part). part p.term (neg_ℚ p.factor)) a.parts; constant = neg_ℚ a.constant }
+negative a = record {
+  parts = map (λ (p : Part). part p.term (neg_ℚ p.factor)) a.parts;
+  constant
+      = neg_ℚ a.constant;
+}
 
 abbrev pub less : Form → Form → Form
 less a b = plus a (negative b)
@@ -86,11 +93,13 @@ scaled_first (f ∷ fs) q = scaled f q
 
 -- the product of the forms, or the other form where more than one of them is no constant
 abbrev pub times : Form → List Form → Form
-times other fs = if nat_lt (length (varying fs)) 2 then scaled_first (varying fs) (factor_of fs) else other
+times other fs = if nat_lt (length (varying fs)) 2 then scaled_first (varying fs) (factor_of fs)
+    else other
 
 -- ---- the form of a term
 
--- that of an application, by the forms of its arguments; the other form is the one where it is opaque
+-- that of an application, by the forms of its arguments; the other form is the one where it is
+-- opaque
 abbrev pub applied : Head → Form → List Form → Form
 applied Add other fs = total fs
 applied Sub other (f ∷ []) = less (constant_form zero_ℚ) f
@@ -101,7 +110,8 @@ applied head other fs = other
 abbrev pub form_step : Term-F (Term × Form) → Form
 form_step (Term-F.Num n) = constant_form (whole n)
 form_step (Term-F.Var k) = opaque_form (term.Var k)
-form_step (Term-F.App head args) = applied head (opaque_form (term.App head (map (λ arg. arg.0) args))) (map (λ arg. arg.1) args)
+form_step (Term-F.App head args) = applied head (opaque_form
+    (term.App head (map (λ arg. arg.0) args))) (map (λ arg. arg.1) args)
 
 unfoldable pub form : Term → Form
 form = para-Term Form form_step

@@ -55,7 +55,8 @@ FormIsLin = (t : Term) → IsLin t (form t)
 
 -- in each model the form has the value of the term
 abbrev pub FormHasValue : Type 0
-FormHasValue = (M : Model) (t : Term) → value (λ o. whole (value_in M o)) (form t) ≡ whole (value_in M t)
+FormHasValue = (M : Model) (t : Term) → value (λ o. whole (value_in M o)) (form t)
+    ≡ whole (value_in M t)
 
 -- a difference has the difference of the values
 abbrev pub DifferenceHasValue : Type 0

@@ -1,5 +1,5 @@
 pub mod Forms
 pub mod Laws
 pub mod Lin
-pub mod Places
+pub mod PlacesInside
 pub mod Steps

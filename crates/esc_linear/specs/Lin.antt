@@ -1,4 +1,5 @@
--- The linear meaning of a term in whole numbers: a constant, and a coefficient for each term that arithmetic does not look into.
+-- The linear meaning of a term in whole numbers: a constant, and a coefficient for each term that
+-- arithmetic does not look into.
 use Rattle.std.specs.Prelude.{Bool, not, nat_lt, if◌then◌else◌, ℤ, pos, ◌+ℤ◌, ◌-ℤ◌, ◌*ℤ◌, neg_ℤ, List, [], ◌∷◌, map, length}
 use Rattle.std.specs.List.{filter, list_any}
 use Rattle.std.specs.Ordering.{int_eq}
@@ -30,15 +31,24 @@ varies arg = list_any (λ o. not (int_eq (arg.1.coefficient o) (pos 0))) (subter
 -- of a product of constants and at most one other: the coefficient of that, times the constants
 abbrev pub product_coefficient : List Lin → Term → ℤ
 product_coefficient [] o = pos 0
-product_coefficient (L ∷ Ls) o = L.coefficient o *ℤ product_of (map (λ (M : Lin). M.constant) Ls) +ℤ L.constant *ℤ product_coefficient Ls o
+product_coefficient (L ∷ Ls) o = L.coefficient o *ℤ product_of (map (λ (M : Lin). M.constant) Ls) +ℤ
+    L.constant *ℤ product_coefficient Ls o
 
 abbrev pub applied_lin : Head → List (Term × Lin) → Lin
 applied_lin Add args = record {
   constant = sum_of (map (λ (arg : Term × Lin). arg.1.constant) args);
   coefficient = λ o. sum_of (map (λ (arg : Term × Lin). arg.1.coefficient o) args);
 }
-applied_lin Sub (s ∷ []) = record { constant = neg_ℤ s.1.constant; coefficient = λ o. neg_ℤ (s.1.coefficient o) }
-applied_lin Sub (s ∷ t ∷ []) = record { constant = s.1.constant -ℤ t.1.constant; coefficient = λ o. s.1.coefficient o -ℤ t.1.coefficient o }
+applied_lin Sub (s ∷ []) = record {
+  constant = neg_ℤ s.1.constant;
+  coefficient = λ o. neg_ℤ
+      (s.1.coefficient o);
+}
+applied_lin Sub (s ∷ t ∷ []) = record {
+  constant = s.1.constant -ℤ t.1.constant;
+  coefficient = λ o.
+      s.1.coefficient o -ℤ t.1.coefficient o;
+}
 applied_lin Mul args = if nat_lt (length (filter varies args)) 2 then record {
   constant = product_of (map (λ (arg : Term × Lin). arg.1.constant) args);
   coefficient = product_coefficient (map (λ (arg : Term × Lin). arg.1) args);

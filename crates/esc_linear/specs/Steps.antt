@@ -1,4 +1,5 @@
--- The calculation of a form, step by step: each addition and each multiplication of two fractions that it makes, in their order.
+-- The calculation of a form, step by step: each addition and each multiplication of two fractions
+-- that it makes, in their order.
 use Rattle.std.specs.Prelude.{◌≡◌, ℕ, ◌==◌, Bool, true, false, ◌||◌, nat_lt, if◌then◌else◌, List, [], ◌∷◌, ◌++◌, map, length, Result, Ok, Err}
 use Rattle.std.specs.List.{All, flat_map}
 use Rattle.esc_term.specs.declared.term.Head.{Head}
@@ -28,7 +29,8 @@ abbrev pub AllFit : List Step → Type 0
 AllFit = All StepFits
 
 -- those of a fold: of each item in turn, at what the items before it gave
-unfoldable pub fold_steps : {S X : Type 0} → (S → X → S) → (S → X → List Step) → S → List X → List Step
+unfoldable pub fold_steps : {S X : Type 0} → (S → X → S) → (S → X → List Step) → S → List X
+    → List Step
 fold_steps step own s [] = []
 fold_steps step own s (x ∷ xs) = own s x ++ fold_steps step own (step s x) xs
 
@@ -74,7 +76,8 @@ scaled_first_steps (f ∷ fs) q = scaled_steps f q
 
 -- an opaque product takes no steps of its own
 abbrev pub times_steps : List Form → List Step
-times_steps fs = if nat_lt (length (varying fs)) 2 then factor_steps fs ++ scaled_first_steps (varying fs) (factor_of fs) else []
+times_steps fs = if nat_lt (length (varying fs)) 2 then factor_steps fs
+    ++ scaled_first_steps (varying fs) (factor_of fs) else []
 
 -- ---- the form of a term
 
@@ -94,12 +97,14 @@ combined_steps head fs = []
 
 -- those of an application: first those of its arguments, which are given with their forms
 abbrev pub applied_steps : Head → List Step → List Form → List Step
-applied_steps head inside fs = if looks_into head (length fs) then inside ++ combined_steps head fs else []
+applied_steps head inside fs = if looks_into head (length fs) then inside
+    ++ combined_steps head fs else []
 
 abbrev pub steps_step : Term-F (Term × List Step) → List Step
 steps_step (Term-F.Num n) = []
 steps_step (Term-F.Var k) = []
-steps_step (Term-F.App head args) = applied_steps head (flat_map (λ arg. arg.1) args) (map (λ arg. form arg.0) args)
+steps_step (Term-F.App head args) = applied_steps head (flat_map (λ arg. arg.1) args)
+    (map (λ arg. form arg.0) args)
 
 unfoldable pub steps : Term → List Step
 steps = para-Term (List Step) steps_step

@@ -70,7 +70,8 @@ fn looks_into(head: Head, count: usize) -> bool
 
 // The form of the term, an application of the head, by the forms of its arguments.
 fn combined(alloc: Global, term: &Term, head: Head, forms: &[Form]) -> Result<Form, FormJam>
-    ensures { Answers result (combined_steps head forms.now) (applied head (opaque_form term.now) forms.now) }
+    ensures { Answers result (combined_steps head forms.now)
+        (applied head (opaque_form term.now) forms.now) }
 {
     match head {
         Head::Add => total(alloc, forms),
@@ -81,7 +82,8 @@ fn combined(alloc: Global, term: &Term, head: Head, forms: &[Form]) -> Result<Fo
 }
 
 fn difference(alloc: Global, term: &Term, forms: &[Form]) -> Result<Form, FormJam>
-    ensures { Answers result (combined_steps Sub forms.now) (applied Sub (opaque_form term.now) forms.now) }
+    ensures { Answers result (combined_steps Sub forms.now)
+        (applied Sub (opaque_form term.now) forms.now) }
 {
     match forms {
         [taken] => subtract(alloc, Form::constant(alloc, Frac::whole(0)), taken),

@@ -1,4 +1,5 @@
-//! Linear forms of terms: a constant and a multiple of each term that arithmetic does not look into.
+//! Linear forms of terms: a constant and a multiple of each term that arithmetic does not look
+//! into.
 #![tactic(auto)]
 
 mod evaluation;
@@ -11,6 +12,3 @@ pub use evaluation::form_of;
 pub use form::{Form, FormJam, Part, Parts};
 pub use laws::{form_laws, minus_laws};
 pub use sum::minus;
-
-#[cfg(test)]
-mod tests;

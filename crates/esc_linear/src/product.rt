@@ -25,7 +25,9 @@ pub(crate) fn times(alloc: Global, term: &Term, forms: &[Form]) -> Result<Form, 
 // The product of forms of which at most one is no constant: that one times the product of the
 // others, or this product alone.
 fn product(alloc: Global, forms: &[Form]) -> Result<Form, FormJam>
-    ensures { Answers result (factor_steps forms.now ++ scaled_first_steps (varying forms.now) (factor_of forms.now)) (scaled_first (varying forms.now) (factor_of forms.now)) }
+    ensures { Answers result (factor_steps forms.now
+        ++ scaled_first_steps (varying forms.now) (factor_of forms.now))
+        (scaled_first (varying forms.now) (factor_of forms.now)) }
 {
     let factor = factor(forms)?;
     'forms: for form in forms {
@@ -80,7 +82,8 @@ fn scaled(alloc: Global, form: &Form, factor: Frac) -> Result<Form, FormJam>
 }
 
 fn scaled_parts(alloc: Global, parts: &[Part], factor: Frac) -> Result<Parts, FormJam>
-    ensures { Answers result (scaled_part_steps parts.now factor) (scaled_parts_of parts.now factor) }
+    ensures { Answers result (scaled_part_steps parts.now factor)
+        (scaled_parts_of parts.now factor) }
 {
     let mut products = Items::new(alloc);
     'parts: for part in parts {
@@ -96,7 +99,8 @@ fn add_scaled(
     part: &Part,
     factor: Frac,
 ) -> Result<Parts, FormJam>
-    ensures { Answers result (multiplies part.now.factor factor ∷ []) (products ++ with_factor part.now.term (part.now.factor *ℚ factor) []) }
+    ensures { Answers result (multiplies part.now.factor factor ∷ []) (products
+        ++ with_factor part.now.term (part.now.factor *ℚ factor) []) }
 {
     let product = Frac::mul(part.factor, factor)?;
     if product.is_zero() {

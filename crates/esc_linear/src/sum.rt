@@ -3,7 +3,7 @@
 ghost use Rattle.std.specs.Prelude.{◌≡◌, ◌≢◌, ◌<◌, [], length, get_or, IfOk, MatchOption};
 ghost use Rattle.std.specs.List.{All};
 ghost use Rattle.esc_linear.specs.Forms.{with_part, with_parts, plus as plus_of, negative as negative_of, less, total as total_of};
-ghost use Rattle.esc_linear.specs.Places.{IsPlaceOf, IsNowhere};
+ghost use Rattle.esc_linear.specs.PlacesInside.{IsPlaceOf, IsNowhere};
 ghost use Rattle.esc_linear.specs.Steps.{Answers, part_steps, parts_steps, plus_steps, less_steps, total_steps};
 
 use crate::form::{Form, FormJam, Part, Parts};

@@ -6,7 +6,8 @@ use Rattle.esc_linear.specs.Laws.{value}
 use Rattle.esc_linear.proofs.laws.minus_laws.Goals as goal
 
 pub returns-clause-value : goal.returns-clause-value
-returns-clause-value c v a b = value-plus v a (negative b) ∙ ap (λ x. value v a +ℚ x) (value-negative v b)
+returns-clause-value c v a b = value-plus v a (negative b)
+    ∙ ap (λ x. value v a +ℚ x) (value-negative v b)
 
 pub returns-clause-normal : goal.returns-clause-normal
 returns-clause-normal c a b h = IsNormal-plus a (negative b) h

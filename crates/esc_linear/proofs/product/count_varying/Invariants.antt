@@ -4,4 +4,5 @@ use Rattle.esc_linear.proofs.product.count_varying.Given as goal
 
 -- those counted and those that are left
 abbrev pub invariant-forms : goal.invariant-forms
-invariant-forms l = (l.count + length (varying (drop l.form-index l.forms)) ≡ length (varying l.forms)) × (l.count ≤ l.form-index)
+invariant-forms l = (l.count + length (varying (drop l.form-index l.forms))
+    ≡ length (varying l.forms)) × (l.count ≤ l.form-index)

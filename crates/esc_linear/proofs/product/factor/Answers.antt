@@ -7,11 +7,16 @@ use Rattle.esc_linear.proofs.product.factor.Goals as goal
 
 pub returns-in_err-factor : goal.returns-in_err-factor
 returns-in_err-factor c =
-    stops with_constant constant_steps one_ℚ c.args.forms.now c.forms.form-index c.forms.factor c.form-item.result _ c.times_constant.result _ _ (omega arith) c.form-item.is c.from_residual.ensures.1 c.in_err-factor.was c.times_constant.ensures c.forms.invariant
+    stops with_constant constant_steps one_ℚ c.args.forms.now c.forms.form-index c.forms.factor
+    c.form-item.result _ c.times_constant.result _ _ (omega arith) c.form-item.is
+    c.from_residual.ensures.1 c.in_err-factor.was c.times_constant.ensures c.forms.invariant
 
 pub forms-preserved : goal.forms-preserved
 forms-preserved c =
-    goes with_constant constant_steps one_ℚ c.args.forms.now c.forms.form-index c.forms.factor c.in_ok-factor.factor c.form-item.result (omega arith) c.form-item.is c.in_ok-factor.ensures c.forms.invariant
+    goes with_constant constant_steps one_ℚ c.args.forms.now c.forms.form-index c.forms.factor
+    c.in_ok-factor.factor c.form-item.result (omega arith) c.form-item.is c.in_ok-factor.ensures
+    c.forms.invariant
 
 pub returns : goal.returns
-returns c = done with_constant constant_steps one_ℚ c.args.forms.now c.forms.form-index c.forms.factor (omega arith) c.forms.invariant
+returns c = done with_constant constant_steps one_ℚ c.args.forms.now c.forms.form-index
+    c.forms.factor (omega arith) c.forms.invariant

@@ -7,4 +7,5 @@ pub returns-in_err-opaque : goal.returns-in_err-opaque
 returns-in_err-opaque c = no_memory _ _ _ c.from_residual.ensures.1
 
 pub returns : goal.returns
-returns c = opaque_product c.in_ok-opaque.field-0 _ c.args.forms.now (omega (arith, c.count_varying.ensures)) c.in_ok-opaque.ensures
+returns c = opaque_product c.in_ok-opaque.field-0 _ c.args.forms.now
+    (omega (arith, c.count_varying.ensures)) c.in_ok-opaque.ensures

@@ -7,12 +7,14 @@ pub returns-then-is_zero : goal.returns-then-is_zero
 unfolding Answers
 returns-then-is_zero c = (
   no_steps c.args.parts c.args.term.now c.args.factor c.requires,
-  none_added c.args.parts c.args.term.now c.args.factor c.requires (sym c.is_zero.ensures ∙ c.if-is_zero.true),
+  none_added c.args.parts c.args.term.now c.args.factor c.requires (sym c.is_zero.ensures
+      ∙ c.if-is_zero.true),
 )
 
 pub returns : goal.returns
 unfolding Answers
 returns c = (
   no_steps c.args.parts c.args.term.now c.args.factor c.requires,
-  c.in_ok-push.ensures.ok ∙ one_added c.args.parts c.args.term.now c.in_ok-term.term c.args.factor c.requires (sym c.is_zero.ensures ∙ c.if-is_zero.false) c.in_ok-term.ensures,
+  c.in_ok-push.ensures.ok ∙ one_added c.args.parts c.args.term.now c.in_ok-term.term c.args.factor
+      c.requires (sym c.is_zero.ensures ∙ c.if-is_zero.false) c.in_ok-term.ensures,
 )

@@ -5,4 +5,5 @@ use Rattle.esc_linear.proofs.FoldLemmas.{Goes}
 use Rattle.esc_linear.proofs.sum.add_parts.Given as goal
 
 abbrev pub invariant-parts : goal.invariant-parts
-invariant-parts l = Goes with_one (λ ps (q : Part). part_steps ps q.term q.factor) l.fn.parts l.more l.part-index l.sums
+invariant-parts l = Goes with_one (λ ps (q : Part). part_steps ps q.term q.factor) l.fn.parts l.more
+    l.part-index l.sums

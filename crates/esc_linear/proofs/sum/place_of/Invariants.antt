@@ -1,5 +1,5 @@
 use Rattle.std.proofs.Common.{take}
-use Rattle.esc_linear.specs.Places.{IsNowhere}
+use Rattle.esc_linear.specs.PlacesInside.{IsNowhere}
 use Rattle.esc_linear.proofs.sum.place_of.Given as goal
 
 abbrev pub invariant-places : goal.invariant-places
