@@ -16,7 +16,8 @@ combination v (e ∷ es) (c ∷ cs) = e *ℚ v c +ℚ combination v es cs
 abbrev pub RowHolds : Point → List ℕ → ℕ → List ℚ → ℚ → Type 0
 RowHolds v cs owner es k = v owner ≡ combination v es cs +ℚ k
 
--- ---- a pivot at a row and at column c: the row is solved for the column's unknown, which the other rows then lose
+-- ---- a pivot at a row and at column c: the row is solved for the column's unknown, which the
+-- other rows then lose
 
 -- the row, solved for the unknown of column c
 abbrev pub solved : List ℚ → ℕ → List ℚ
@@ -39,4 +40,5 @@ eliminated es c ns = plus_multiple (get_or es c zero_ℚ) (set es c zero_ℚ) ns
 abbrev pub eliminated_constants : List (List ℚ) → List ℚ → ℕ → ℚ → List ℚ
 eliminated_constants [] ks c n = []
 eliminated_constants (es ∷ ess) [] c n = []
-eliminated_constants (es ∷ ess) (k ∷ ks) c n = (k +ℚ get_or es c zero_ℚ *ℚ n) ∷ eliminated_constants ess ks c n
+eliminated_constants (es ∷ ess) (k ∷ ks) c n = (k +ℚ get_or es c zero_ℚ *ℚ n)
+    ∷ eliminated_constants ess ks c n

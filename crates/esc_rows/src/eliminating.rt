@@ -12,11 +12,18 @@ use esc_frac::{Frac, Spill};
 /// Takes the unknown of a column out of each row but one that has it, by the row that is solved for
 /// it, where each step fits.
 pub fn eliminate_rows(rows: &mut [Vec<Frac>], kept: usize, column: usize, other: &[Frac])
-    requires widths { (i : ℕ) → i < length rows.old → i ≢ kept → length (get_or (map (λ es. es.items) rows.old) i []) ≡ length other.now }
+    requires widths { (i : ℕ) → i < length rows.old → i ≢ kept
+        → length (get_or (map (λ es. es.items) rows.old) i []) ≡ length other.now }
     requires inside { column < length other.now }
-    requires fits { (i : ℕ) → i < length rows.old → i ≢ kept → (get_or (get_or (map (λ es. es.items) rows.old) i []) column zero_ℚ).num ≢ pos 0 → MultipleFits (get_or (get_or (map (λ es. es.items) rows.old) i []) column zero_ℚ) (set (get_or (map (λ es. es.items) rows.old) i []) column zero_ℚ) other.now }
-    ensures others { (i : ℕ) → i < length rows.old → i ≢ kept → get_or (map (λ es. es.items) rows.new) i [] ≡ eliminated (get_or (map (λ es. es.items) rows.old) i []) column other.now }
-    ensures same { get_or (map (λ es. es.items) rows.new) kept [] ≡ get_or (map (λ es. es.items) rows.old) kept [] }
+    requires fits { (i : ℕ) → i < length rows.old → i ≢ kept
+        → (get_or (get_or (map (λ es. es.items) rows.old) i []) column zero_ℚ).num ≢ pos 0
+        → MultipleFits (get_or (get_or (map (λ es. es.items) rows.old) i []) column zero_ℚ)
+        (set (get_or (map (λ es. es.items) rows.old) i []) column zero_ℚ) other.now }
+    ensures others { (i : ℕ) → i < length rows.old → i ≢ kept
+        → get_or (map (λ es. es.items) rows.new) i []
+        ≡ eliminated (get_or (map (λ es. es.items) rows.old) i []) column other.now }
+    ensures same { get_or (map (λ es. es.items) rows.new) kept []
+        ≡ get_or (map (λ es. es.items) rows.old) kept [] }
 {
     for (place, row) in rows.iter_mut().enumerate() {
         if place != kept {
@@ -29,7 +36,8 @@ pub fn eliminate_rows(rows: &mut [Vec<Frac>], kept: usize, column: usize, other:
 fn eliminate(row: &mut [Frac], column: usize, other: &[Frac])
     requires lengths { length row.old ≡ length other.now }
     requires inside { column < length row.old }
-    requires fits { (get_or row.old column zero_ℚ).num ≢ pos 0 → MultipleFits (get_or row.old column zero_ℚ) (set row.old column zero_ℚ) other.now }
+    requires fits { (get_or row.old column zero_ℚ).num ≢ pos 0
+        → MultipleFits (get_or row.old column zero_ℚ) (set row.old column zero_ℚ) other.now }
     ensures { row.new ≡ eliminated row.old column other.now }
 {
     let factor = row[column];
@@ -44,7 +52,8 @@ fn eliminate(row: &mut [Frac], column: usize, other: &[Frac])
 }
 
 /// Tries each step of taking the unknown of a column out of each row but one that has it and out of
-/// its constant. `own` is the row that is to be solved for it, and `constant` that of the solved row.
+/// its constant. `own` is the row that is to be solved for it, and `constant` that of the solved
+/// row.
 pub fn try_eliminate_rows(
     rows: &[Vec<Frac>],
     constants: &[Frac],
@@ -53,12 +62,15 @@ pub fn try_eliminate_rows(
     own: &[Frac],
     constant: Frac,
 ) -> Result<(), Spill>
-    requires widths { (i : ℕ) → i < length rows.now → length (get_or (map (λ es. es.items) rows.now) i []) ≡ length own.now }
+    requires widths { (i : ℕ) → i < length rows.now
+        → length (get_or (map (λ es. es.items) rows.now) i []) ≡ length own.now }
     requires constants { length constants.now ≡ length rows.now }
     requires inside { column < length own.now }
     requires nonzero { (get_or own.now column zero_ℚ).num ≢ pos 0 }
-    requires solving { (j : ℕ) → j < length own.now → j ≢ column → QuotientFits (get_or own.now j zero_ℚ) (get_or own.now column zero_ℚ) }
-    ensures { IsOk result ↔ EliminationsFit (map (λ es. es.items) rows.now) constants.now kept column (solved own.now column) constant }
+    requires solving { (j : ℕ) → j < length own.now → j ≢ column
+        → QuotientFits (get_or own.now j zero_ℚ) (get_or own.now column zero_ℚ) }
+    ensures { IsOk result ↔ EliminationsFit (map (λ es. es.items) rows.now) constants.now kept
+        column (solved own.now column) constant }
 {
     for (place, row) in rows.iter().enumerate() {
         if place != kept {
@@ -79,8 +91,10 @@ fn try_eliminate(
     requires lengths { length row.now ≡ length own.now }
     requires inside { column < length own.now }
     requires nonzero { (get_or own.now column zero_ℚ).num ≢ pos 0 }
-    requires solving { (j : ℕ) → j < length own.now → j ≢ column → QuotientFits (get_or own.now j zero_ℚ) (get_or own.now column zero_ℚ) }
-    ensures { IsOk result ↔ ((get_or row.now column zero_ℚ).num ≢ pos 0 → EliminationFits row.now held column (solved own.now column) constant) }
+    requires solving { (j : ℕ) → j < length own.now → j ≢ column
+        → QuotientFits (get_or own.now j zero_ℚ) (get_or own.now column zero_ℚ) }
+    ensures { IsOk result ↔ ((get_or row.now column zero_ℚ).num ≢ pos 0
+        → EliminationFits row.now held column (solved own.now column) constant) }
 {
     if is_zero(row[column]) {
         return Ok(());
@@ -95,8 +109,10 @@ fn try_eliminate_entries(row: &[Frac], column: usize, own: &[Frac]) -> Result<()
     requires lengths { length row.now ≡ length own.now }
     requires inside { column < length own.now }
     requires nonzero { (get_or own.now column zero_ℚ).num ≢ pos 0 }
-    requires solving { (j : ℕ) → j < length own.now → j ≢ column → QuotientFits (get_or own.now j zero_ℚ) (get_or own.now column zero_ℚ) }
-    ensures { IsOk result ↔ MultipleFits (get_or row.now column zero_ℚ) (set row.now column zero_ℚ) (solved own.now column) }
+    requires solving { (j : ℕ) → j < length own.now → j ≢ column
+        → QuotientFits (get_or own.now j zero_ℚ) (get_or own.now column zero_ℚ) }
+    ensures { IsOk result ↔ MultipleFits (get_or row.now column zero_ℚ) (set row.now column zero_ℚ)
+        (solved own.now column) }
 {
     let factor = row[column];
     for place in 0..row.len() {
@@ -126,7 +142,8 @@ fn fitting_entry(own: &[Frac], column: usize, place: usize) -> Frac
     requires inside { column < length own.now }
     requires within { place < length own.now }
     requires nonzero { (get_or own.now column zero_ℚ).num ≢ pos 0 }
-    requires fits { place ≢ column → QuotientFits (get_or own.now place zero_ℚ) (get_or own.now column zero_ℚ) }
+    requires fits { place ≢ column → QuotientFits (get_or own.now place zero_ℚ)
+        (get_or own.now column zero_ℚ) }
     ensures { result ≡ get_or (solved own.now column) place zero_ℚ }
 {
     match solved_entry(own, column, place) {
@@ -144,9 +161,15 @@ pub fn eliminate_constants(
     constant: Frac,
 )
     requires constants { length constants.old ≡ length rows.now }
-    requires widths { (i : ℕ) → i < length rows.now → column < length (get_or (map (λ es. es.items) rows.now) i []) }
-    requires fits { (i : ℕ) → i < length rows.now → i ≢ kept → (get_or (get_or (map (λ es. es.items) rows.now) i []) column zero_ℚ).num ≢ pos 0 → StepFits (get_or (get_or (map (λ es. es.items) rows.now) i []) column zero_ℚ) (get_or constants.old i zero_ℚ) constant }
-    ensures others { (i : ℕ) → i < length rows.now → i ≢ kept → get_or constants.new i zero_ℚ ≡ get_or constants.old i zero_ℚ +ℚ get_or (get_or (map (λ es. es.items) rows.now) i []) column zero_ℚ *ℚ constant }
+    requires widths { (i : ℕ) → i < length rows.now → column
+        < length (get_or (map (λ es. es.items) rows.now) i []) }
+    requires fits { (i : ℕ) → i < length rows.now → i ≢ kept
+        → (get_or (get_or (map (λ es. es.items) rows.now) i []) column zero_ℚ).num ≢ pos 0
+        → StepFits (get_or (get_or (map (λ es. es.items) rows.now) i []) column zero_ℚ)
+        (get_or constants.old i zero_ℚ) constant }
+    ensures others { (i : ℕ) → i < length rows.now → i ≢ kept → get_or constants.new i zero_ℚ
+        ≡ get_or constants.old i zero_ℚ +ℚ get_or (get_or (map (λ es. es.items) rows.now) i [])
+        column zero_ℚ *ℚ constant }
 {
     for (place, row) in rows.iter().enumerate() {
         if place != kept {

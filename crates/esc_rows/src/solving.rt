@@ -22,7 +22,8 @@ pub fn try_solve(row: &[Frac], constant: Frac, column: usize) -> Result<(), Spil
 fn try_solve_entries(row: &[Frac], column: usize) -> Result<(), Spill>
     requires inside { column < length row.now }
     requires nonzero { (get_or row.now column zero_ℚ).num ≢ pos 0 }
-    ensures { IsOk result ↔ ((j : ℕ) → j < length row.now → j ≢ column → QuotientFits (get_or row.now j zero_ℚ) (get_or row.now column zero_ℚ)) }
+    ensures { IsOk result ↔ ((j : ℕ) → j < length row.now → j ≢ column
+        → QuotientFits (get_or row.now j zero_ℚ) (get_or row.now column zero_ℚ)) }
 {
     for place in 0..row.len() {
         solved_entry(row, column, place)?;
@@ -35,7 +36,8 @@ pub fn solved_entry(row: &[Frac], column: usize, place: usize) -> Result<Frac, S
     requires inside { column < length row.now }
     requires within { place < length row.now }
     requires nonzero { (get_or row.now column zero_ℚ).num ≢ pos 0 }
-    ensures { OkIff result (place ≢ column → QuotientFits (get_or row.now place zero_ℚ) (get_or row.now column zero_ℚ)) (get_or (solved row.now column) place zero_ℚ) }
+    ensures { OkIff result (place ≢ column → QuotientFits (get_or row.now place zero_ℚ)
+        (get_or row.now column zero_ℚ)) (get_or (solved row.now column) place zero_ℚ) }
 {
     let pivot = row[column];
     if place == column {
@@ -79,7 +81,8 @@ fn fitting_quotient(entry: Frac, pivot: Frac) -> Frac
 pub fn solve(row: &mut [Frac], column: usize)
     requires inside { column < length row.old }
     requires nonzero { (get_or row.old column zero_ℚ).num ≢ pos 0 }
-    requires fits { (j : ℕ) → j < length row.old → j ≢ column → QuotientFits (get_or row.old j zero_ℚ) (get_or row.old column zero_ℚ) }
+    requires fits { (j : ℕ) → j < length row.old → j ≢ column
+        → QuotientFits (get_or row.old j zero_ℚ) (get_or row.old column zero_ℚ) }
     ensures { row.new ≡ solved row.old column }
 {
     let pivot = row[column];

@@ -19,7 +19,8 @@ pub fn reserve_entries(rows: &mut [Vec<Frac>]) -> Result<(), AllocError>
 /// Adds an entry 0 to each row, where there is room for it.
 pub fn widen(rows: &mut [Vec<Frac>])
     requires { All (λ es. vec_len es < vec_capacity es) rows.old }
-    ensures { map (λ es. es.items) rows.new ≡ map (λ es. es ++ zero_ℚ ∷ []) (map (λ es. es.items) rows.old) }
+    ensures { map (λ es. es.items) rows.new ≡ map (λ es. es ++ zero_ℚ
+        ∷ []) (map (λ es. es.items) rows.old) }
 {
     for row in rows.iter_mut() {
         row.push_reserved(Frac::whole(0));

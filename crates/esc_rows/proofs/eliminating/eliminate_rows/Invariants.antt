@@ -5,4 +5,5 @@ use Rattle.esc_rows.proofs.eliminating.eliminate_rows.Given as goal
 
 -- the rows so far have lost the unknown, but for the one that is kept; the others are as they were
 abbrev pub invariant-loop-place : goal.invariant-loop-place
-invariant-loop-place l = RewrittenBelow (λ es. eliminated es l.column l.other) (map (λ es. es.items) l.initial.rows) (map (λ es. es.items) l.rows) l.kept l.place
+invariant-loop-place l = RewrittenBelow (λ es. eliminated es l.column l.other)
+    (map (λ es. es.items) l.initial.rows) (map (λ es. es.items) l.rows) l.kept l.place

@@ -8,6 +8,7 @@ use Rattle.esc_rows.proofs.eliminating.moved_constant.Goals as goal
 pub returns-then-is_zero : goal.returns-then-is_zero
 returns-then-is_zero c =
     sym (
-    ap (λ (f : ℚ). c.args.held +ℚ f *ℚ c.args.constant) (zero_from_num c.args.factor (c.if-is_zero.ensures.0 refl))
+    ap (λ (f : ℚ). c.args.held +ℚ f *ℚ c.args.constant)
+    (zero_from_num c.args.factor (c.if-is_zero.ensures.0 refl))
     ∙ ap (λ (x : ℚ). c.args.held +ℚ x) (zero-*ℚ c.args.constant) ∙ +ℚ-zero c.args.held
     )

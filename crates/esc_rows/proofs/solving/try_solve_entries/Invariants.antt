@@ -5,4 +5,5 @@ use Rattle.esc_rows.proofs.solving.try_solve_entries.Given as goal
 
 -- each division so far fits
 abbrev pub invariant-loop-place : goal.invariant-loop-place
-invariant-loop-place l = (j : ℕ) → j < l.place → j ≢ l.column → QuotientFits (get_or l.row j zero_ℚ) (get_or l.row l.column zero_ℚ)
+invariant-loop-place l = (j : ℕ) → j < l.place → j ≢ l.column
+    → QuotientFits (get_or l.row j zero_ℚ) (get_or l.row l.column zero_ℚ)
