@@ -4,7 +4,9 @@ pub mod Pivoted
 pub mod Places
 pub mod SampleLaws
 pub mod Tables
+pub mod LocalLaws
 pub mod Orders
+pub mod OwnerLaws
 pub mod RuleLaws
 pub mod MoveLaws
 pub mod PeakLaws

@@ -41,7 +41,8 @@ sum_nonnegative p q h k =
 
 ratio_nonnegative : (n : ℤ) (d : ℕ) → 0 < d → pos 0 ≤ℤ n → zero_ℚ ≤ℚ ratio n d
 ratio_nonnegative n d some h =
-    subst (λ (x : ℚ). x ≤ℚ ratio n d) (ratio-zero 1 (omega arith)) (ratio-≤ℚ-ratio (pos 0) 1 n d (omega arith) some (omega (arith, ints)))
+    subst (λ (x : ℚ). x ≤ℚ ratio n d) (ratio-zero 1 (omega arith))
+    (ratio-≤ℚ-ratio (pos 0) 1 n d (omega arith) some (omega (arith, ints)))
 
 product_nonnegative_ℤ : (m n : ℤ) → pos 0 ≤ℤ m → pos 0 ≤ℤ n → pos 0 ≤ℤ (m *ℤ n)
 product_nonnegative_ℤ m (pos n) h k = let scaled = *ℤ-≤ℤ (pos 0) m n h in omega (arith, ints)
@@ -51,7 +52,8 @@ product_nonnegative_ℤ m (negsuc n) h k = absurd (omega (arith, ints))
 pub product_nonnegative : (p q : ℚ) → zero_ℚ ≤ℚ p → zero_ℚ ≤ℚ q → zero_ℚ ≤ℚ p *ℚ q
 unfolding ◌*ℚ◌
 product_nonnegative p q h k =
-    ratio_nonnegative (p.num *ℤ q.num) (p.den * q.den) (mul-pos (den_pos p) (den_pos q)) (product_nonnegative_ℤ p.num q.num (num_of_zero-≤ℚ p h) (num_of_zero-≤ℚ q k))
+    ratio_nonnegative (p.num *ℤ q.num) (p.den * q.den) (mul-pos (den_pos p) (den_pos q))
+    (product_nonnegative_ℤ p.num q.num (num_of_zero-≤ℚ p h) (num_of_zero-≤ℚ q k))
 
 -- the negative of a number that is not positive
 pub negative_nonnegative : (p : ℚ) → p.num ≤ℤ pos 0 → zero_ℚ ≤ℚ neg_ℚ p
@@ -64,8 +66,10 @@ ratio_none z = refl
 
 flipped_nonnegative : (n : ℤ) (d : ℕ) → 0 < d → pos 0 ≤ℤ n → zero_ℚ ≤ℚ flipped n d
 unfolding flipped
-flipped_nonnegative (pos zero) d some h = subst (λ (x : ℚ). zero_ℚ ≤ℚ x) (sym (ratio_none (pos d))) (≤ℚ_refl zero_ℚ)
-flipped_nonnegative (pos (suc n)) d some h = ratio_nonnegative (pos d) (suc n) (omega arith) (omega (arith, ints))
+flipped_nonnegative (pos zero) d some h = subst (λ (x : ℚ). zero_ℚ ≤ℚ x) (sym (ratio_none (pos d)))
+    (≤ℚ_refl zero_ℚ)
+flipped_nonnegative (pos (suc n)) d some h = ratio_nonnegative (pos d) (suc n) (omega arith)
+    (omega (arith, ints))
 flipped_nonnegative (negsuc n) d some h = absurd (omega (arith, ints))
 
 -- and the inverse of one that is not negative

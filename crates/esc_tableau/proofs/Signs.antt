@@ -25,14 +25,16 @@ push-*ℚ true e d = refl
 push-*ℚ false e d = *ℚ-neg_ℚ e d ∙ sym (neg_ℚ-*ℚ e d)
 
 -- which does not fall is not pushed down
-pub push_nonnegative : (up : Bool) (e : ℚ) → is_against up (sign_of e.num) ≡ false → zero_ℚ ≤ℚ push up e
+pub push_nonnegative : (up : Bool) (e : ℚ) → is_against up (sign_of e.num) ≡ false
+    → zero_ℚ ≤ℚ push up e
 push_nonnegative up e h = go up (sign_of e.num) refl h
   where
     go : (up : Bool) (s : Sign) → sign_of e.num ≡ s → is_against up s ≡ false → zero_ℚ ≤ℚ push up e
     go true Negative k h = cc
     go true Zero k h = zero-≤ℚ e (let n = sign_zero e.num k in omega (arith, ints))
     go true Above k h = zero-≤ℚ e (let n = sign_above e.num k in omega (arith, ints))
-    go false Negative k h = negative_nonnegative e (let n = sign_negative e.num k in omega (arith, ints))
+    go false Negative k h = negative_nonnegative e (let n = sign_negative e.num k
+        in omega (arith, ints))
     go false Zero k h = negative_nonnegative e (let n = sign_zero e.num k in omega (arith, ints))
     go false Above k h = cc
 
@@ -53,7 +55,8 @@ inverse_unique x y some h =
     ∙ *ℚ_comm one_ℚ (inverse_ℚ x) ∙ *ℚ-one (inverse_ℚ x)
 
 negative_some : (e : ℚ) → e.num ≢ pos 0 → (neg_ℚ e).num ≢ pos 0
-negative_some e some h = some (ap (λ (x : ℚ). x.num) (sym (+ℚ-zero e) ∙ ap (λ x. e +ℚ x) (sym (zero_from_num (neg_ℚ e) h)) ∙ +ℚ-neg_ℚ e))
+negative_some e some h = some (ap (λ (x : ℚ). x.num) (sym (+ℚ-zero e)
+    ∙ ap (λ x. e +ℚ x) (sym (zero_from_num (neg_ℚ e) h)) ∙ +ℚ-neg_ℚ e))
 
 pub falls_signs : (up : Bool) (e : ℚ) → is_against up (sign_of e.num) ≡ true → Falls up e
 falls_signs up e h = go up (sign_of e.num) refl h
@@ -64,10 +67,14 @@ falls_signs up e h = go up (sign_of e.num) refl h
         let size : absolute e ≡ neg_ℚ e = ap (with_sign e) k in record {
           some = some;
           whole = subst (λ (x : ℚ). x.num ≢ pos 0) (sym size) (negative_some e some);
-          size = subst (λ (x : ℚ). zero_ℚ ≤ℚ x) (sym size) (negative_nonnegative e (let n = sign_negative e.num k in omega (arith, ints)));
+          size = subst (λ (x : ℚ). zero_ℚ ≤ℚ x) (sym size)
+              (negative_nonnegative e (let n = sign_negative e.num k in omega (arith, ints)));
           pushed = sym (ap neg_ℚ size ∙ neg_neg e);
           inverse = λ n. sym (*ℚ-neg_ℚ n (inverse_ℚ e))
-              ∙ ap (λ x. n *ℚ x) (inverse_unique (neg_ℚ e) (neg_ℚ (inverse_ℚ e)) (negative_some e some) (neg_ℚ-*ℚ e (neg_ℚ (inverse_ℚ e)) ∙ ap neg_ℚ (*ℚ-neg_ℚ e (inverse_ℚ e)) ∙ neg_neg (e *ℚ inverse_ℚ e) ∙ *ℚ-inverse_ℚ e some))
+              ∙ ap (λ x. n *ℚ x) (inverse_unique (neg_ℚ e) (neg_ℚ (inverse_ℚ e))
+              (negative_some e some) (neg_ℚ-*ℚ e (neg_ℚ (inverse_ℚ e))
+              ∙ ap neg_ℚ (*ℚ-neg_ℚ e (inverse_ℚ e)) ∙ neg_neg (e *ℚ inverse_ℚ e)
+              ∙ *ℚ-inverse_ℚ e some))
               ∙ ap (λ x. n *ℚ inverse_ℚ x) (sym size);
         }
     go true Zero k h = cc
@@ -79,22 +86,27 @@ falls_signs up e h = go up (sign_of e.num) refl h
         let size : absolute e ≡ e = ap (with_sign e) k in record {
           some = some;
           whole = subst (λ (x : ℚ). x.num ≢ pos 0) (sym size) some;
-          size = subst (λ (x : ℚ). zero_ℚ ≤ℚ x) (sym size) (zero-≤ℚ e (let n = sign_above e.num k in omega (arith, ints)));
+          size = subst (λ (x : ℚ). zero_ℚ ≤ℚ x) (sym size)
+              (zero-≤ℚ e (let n = sign_above e.num k in omega (arith, ints)));
           pushed = ap neg_ℚ (sym size);
           inverse = λ n. ap (λ x. neg_ℚ (n *ℚ inverse_ℚ x)) (sym size);
         }
 
 -- a row with the constant k goes down with d to 0 at most, where d is at most its ratio
-pub stays_above : (a k d : ℚ) → a.num ≢ pos 0 → zero_ℚ ≤ℚ a → d ≤ℚ (k /ℚ a) → zero_ℚ ≤ℚ k +ℚ neg_ℚ a *ℚ d
+pub stays_above : (a k d : ℚ) → a.num ≢ pos 0 → zero_ℚ ≤ℚ a → d ≤ℚ (k /ℚ a) → zero_ℚ ≤ℚ k
+    +ℚ neg_ℚ a *ℚ d
 stays_above a k d some above least =
     subst (λ (x : ℚ). zero_ℚ ≤ℚ x) same (product_nonnegative a ((k /ℚ a) +ℚ neg_ℚ d) above left)
   where
     left : zero_ℚ ≤ℚ (k /ℚ a) +ℚ neg_ℚ d
-    left = subst (λ (x : ℚ). x ≤ℚ (k /ℚ a) +ℚ neg_ℚ d) (+ℚ-neg_ℚ d) (≤ℚ-+ℚ d (k /ℚ a) (neg_ℚ d) least)
+    left = subst (λ (x : ℚ). x ≤ℚ (k /ℚ a) +ℚ neg_ℚ d) (+ℚ-neg_ℚ d)
+        (≤ℚ-+ℚ d (k /ℚ a) (neg_ℚ d) least)
 
     whole : a *ℚ (k /ℚ a) ≡ k
     whole =
-        ap (λ x. a *ℚ x) (*ℚ_comm k (inverse_ℚ a)) ∙ sym (*ℚ_assoc a (inverse_ℚ a) k) ∙ ap (λ x. x *ℚ k) (*ℚ-inverse_ℚ a some) ∙ *ℚ_comm one_ℚ k ∙ *ℚ-one k
+        ap (λ x. a *ℚ x) (*ℚ_comm k (inverse_ℚ a)) ∙ sym (*ℚ_assoc a (inverse_ℚ a) k)
+        ∙ ap (λ x. x *ℚ k) (*ℚ-inverse_ℚ a some) ∙ *ℚ_comm one_ℚ k ∙ *ℚ-one k
 
     same : a *ℚ ((k /ℚ a) +ℚ neg_ℚ d) ≡ k +ℚ neg_ℚ a *ℚ d
-    same = *ℚ-+ℚ a (k /ℚ a) (neg_ℚ d) ∙ ap (λ x. x +ℚ a *ℚ neg_ℚ d) whole ∙ ap (λ x. k +ℚ x) (*ℚ-neg_ℚ a d ∙ sym (neg_ℚ-*ℚ a d))
+    same = *ℚ-+ℚ a (k /ℚ a) (neg_ℚ d) ∙ ap (λ x. x +ℚ a *ℚ neg_ℚ d) whole
+        ∙ ap (λ x. k +ℚ x) (*ℚ-neg_ℚ a d ∙ sym (neg_ℚ-*ℚ a d))

@@ -4,7 +4,7 @@ use Rattle.esc_frac.specs.Fits.{SumFits}
 use Rattle.esc_frac.specs.Rational.{ℚ, zero_ℚ, ◌+ℚ◌, ◌*ℚ◌}
 use Rattle.esc_rows.specs.Rows.{Point, plus_multiple}
 use Rattle.esc_rows.specs.Steps.{MultipleFits, StepFits}
-use Rattle.esc_tableau.specs.Table.{Table, IsSolution, IsRestricted, IsWithin, sample, size, row_entries, row_constant, row_of, column_of, OwnsColumn}
+use Rattle.esc_tableau.specs.Table.{Table, IsSolution, IsRestricted, IsWithin, sample, size, row_entries, row_constant, row_of, column_of, OwnsRow, OwnsColumn}
 use Rattle.esc_tableau.specs.declared.owner.Owner.{Owner}
 use Rattle.esc_tableau.specs.declared.answers.RowStop.{RowStop}
 use Rattle.esc_tableau.specs.declared.answers.RowStop.TheVariants.{Spill, Memory}
@@ -35,9 +35,11 @@ sum es k = record { entries = es; constant = k }
 
 -- the multiple of a row: of each entry and of the constant
 abbrev pub plus_owner : Table → Sum → ℚ → ℕ → Sum
-plus_owner t s f r = sum (plus_multiple f s.entries (row_entries t r)) (s.constant +ℚ f *ℚ row_constant t r)
+plus_owner t s f r = sum (plus_multiple f s.entries (row_entries t r)) (s.constant
+    +ℚ f *ℚ row_constant t r)
 
--- a part adds its fraction where its unknown owns a column, and the multiple of its row where it owns a row
+-- a part adds its fraction where its unknown owns a column, and the multiple of its row where it
+-- owns a row
 abbrev pub plus_part : Table → Sum → Part → Sum
 plus_part t s p =
     let c = column_of t p.unknown in
@@ -56,7 +58,8 @@ pub record OwnerFits (t : Table) (s : Sum) (f : ℚ) (r : ℕ) : Type 0 where
 
 -- those of a part
 pub record PartFits (t : Table) (s : Sum) (p : Part) : Type 0 where
-  pub column : OwnsColumn t p.unknown → SumFits (get_or s.entries (column_of t p.unknown) zero_ℚ) p.factor
+  pub column : OwnsColumn t p.unknown → SumFits (get_or s.entries (column_of t p.unknown) zero_ℚ)
+      p.factor
   pub owner : length t.columns ≤ column_of t p.unknown → OwnerFits t s p.factor (row_of t p.unknown)
 
 -- and those of all parts, in their order
@@ -79,12 +82,14 @@ with_row t s = record {
 
 -- how a sum and the call that adds its row end
 abbrev pub SumEnds : Table → List Part → ℚ → Result Draft RowStop → Type 0
-SumEnds t ps k (Ok d) = PartsFit t (start_sum t k) ps × (sum d.entries.items d.constant ≡ plus_parts t (start_sum t k) ps)
+SumEnds t ps k (Ok d) = PartsFit t (start_sum t k) ps
+    × (sum d.entries.items d.constant ≡ plus_parts t (start_sum t k) ps)
 SumEnds t ps k (Err Spill) = ¬ PartsFit t (start_sum t k) ps
 SumEnds t ps k (Err Memory) = Unit
 
 abbrev pub RowEnds : Table → Table → List Part → ℚ → Result ℕ RowStop → Type 0
-RowEnds old new ps k (Ok u) = (u ≡ size old) × PartsFit old (start_sum old k) ps × (new ≡ with_row old (plus_parts old (start_sum old k) ps))
+RowEnds old new ps k (Ok u) = (u ≡ size old) × PartsFit old (start_sum old k) ps
+    × (new ≡ with_row old (plus_parts old (start_sum old k) ps))
 RowEnds old new ps k (Err Spill) = (new ≡ old) × (¬ PartsFit old (start_sum old k) ps)
 RowEnds old new ps k (Err Memory) = new ≡ old
 
@@ -93,11 +98,14 @@ abbrev pub parts_value : Point → List Part → ℚ
 parts_value v [] = zero_ℚ
 parts_value v (p ∷ ps) = p.factor *ℚ v p.unknown +ℚ parts_value v ps
 
--- a row was added: at each solution its owner is the sum of the parts and the constant, and nothing else changed
+-- a row was added: at each solution its owner is the sum of the parts and the constant, and nothing
+-- else changed
 pub record AddsRow (old new : Table) (ps : List Part) (k : ℚ) : Type 0 where
-  pub solutions : (v : Point) → IsSolution new v ↔ (IsSolution old v × (v (size old) ≡ parts_value v ps +ℚ k))
+  pub solutions : (v : Point) → IsSolution new v ↔ (IsSolution old v
+      × (v (size old) ≡ parts_value v ps +ℚ k))
   pub restrictions : (u : ℕ) → IsRestricted old u ↔ IsRestricted new u
   pub within : IsWithin old (sample old) → IsWithin new (sample new)
+  pub owner : OwnsRow new (size old)
   pub size : size new ≡ size old + 1
 
 -- a column was added: its unknown may have any value, and nothing else changed
@@ -117,11 +125,13 @@ without_row t r = record {
   constants = remove t.constants r;
 }
 
--- the newest unknown was dropped with its row: each solution that is left comes from one before, and the other unknowns keep their restrictions and samples
+-- the newest unknown was dropped with its row: each solution that is left comes from one before,
+-- and the other unknowns keep their restrictions and samples
 pub record DropsRow (old new : Table) : Type 0 where
   pub fewer : size old ≡ size new + 1
   pub solutions : (v : Point) → IsSolution old v → IsSolution new v
-  pub extends : (v : Point) → IsSolution new v → (w : Point) × IsSolution old w × ((u : ℕ) → u < size new → w u ≡ v u)
+  pub extends : (v : Point) → IsSolution new v → (w : Point) × IsSolution old w
+      × ((u : ℕ) → u < size new → w u ≡ v u)
   pub restrictions : (u : ℕ) → u < size new → IsRestricted old u ↔ IsRestricted new u
   pub values : (u : ℕ) → u < size new → sample new u ≡ sample old u
   pub within : IsWithin old (sample old) → IsWithin new (sample new)

@@ -1,4 +1,5 @@
--- The rule by which an unknown is maximised: which column enters, which row leaves. Of several the one of least unknown is taken, so that the rule cannot go round.
+-- The rule by which an unknown is maximised: which column enters, which row leaves. Of several the
+-- one of least unknown is taken, so that the rule cannot go round.
 use Rattle.std.specs.Prelude.{ℕ, suc, zero, Bool, true, false, ◌&&◌, ◌==◌, Option, Some, None, length, get_or, if◌then◌else◌, nat_lt}
 use Rattle.std.specs.Ordering.{is_lt}
 use Rattle.esc_frac.specs.Rational.{ℚ, zero_ℚ, one_ℚ, neg_ℚ, ◌/ℚ◌, cmp_ℚ}
@@ -30,9 +31,11 @@ absolute p = with_sign p (sign_of p.num)
 -- how fast u rises with the unknown of column c
 abbrev pub slope : Table → ℕ → ℕ → ℚ
 slope t u c =
-    if nat_lt (row_of t u) (length t.owners) then entry t (row_of t u) c else (if column t c == u then one_ℚ else zero_ℚ)
+    if nat_lt (row_of t u) (length t.owners) then entry t (row_of t u) c else
+    (if column t c == u then one_ℚ else zero_ℚ)
 
--- Which way the unknown of column c moves for another to rise, by the sign of the slope: up or down. One that is restricted stands at its least value.
+-- Which way the unknown of column c moves for another to rise, by the sign of the slope: up or
+-- down. One that is restricted stands at its least value.
 abbrev pub way : ℕ → Bool → Sign → Option Move
 way c restricted Zero = None
 way c restricted Above = Some (record { column = c; up = true })
@@ -43,7 +46,8 @@ way c false Negative = Some (record { column = c; up = false })
 abbrev pub improving : Table → ℕ → ℕ → Option Move
 improving t u w =
     let c = column_of t w in
-    if nat_lt c (length t.columns) then way c (get_or t.columns c nobody).restricted (sign_of (slope t u c).num) else None
+    if nat_lt c (length t.columns) then way c (get_or t.columns c nobody).restricted
+    (sign_of (slope t u c).num) else None
 
 abbrev pub or_next : {X : Type 0} → Option X → Option X → Option X
 or_next None y = y
@@ -66,13 +70,16 @@ is_against false Negative = false
 is_against false Zero = false
 is_against false Above = true
 
--- the row's owner is restricted and falls along the move; the unknown that is maximised never does, since it rises
+-- the row's owner is restricted and falls along the move; the unknown that is maximised never does,
+-- since it rises
 abbrev pub falls : Table → Move → ℕ → Bool
-falls t m r = (get_or t.owners r nobody).restricted && is_against m.up (sign_of (entry t r m.column).num)
+falls t m r = (get_or t.owners r nobody).restricted
+    && is_against m.up (sign_of (entry t r m.column).num)
 
 -- the row that w owns, where it bounds the move
 abbrev pub bounding : Table → Move → ℕ → Option ℕ
-bounding t m w = if nat_lt (row_of t w) (length t.owners) && falls t m (row_of t w) then Some (row_of t w) else None
+bounding t m w = if nat_lt (row_of t w) (length t.owners)
+    && falls t m (row_of t w) then Some (row_of t w) else None
 
 -- how far the column's unknown can move until the row's owner is 0
 abbrev pub ratio : Table → Move → ℕ → ℚ
@@ -84,7 +91,8 @@ lesser t m best None = best
 lesser t m None (Some r) = Some r
 lesser t m (Some b) (Some r) = if is_lt (cmp_ℚ (ratio t m r) (ratio t m b)) then Some r else Some b
 
--- of the rows that bound the move and have owners below n, the one of least ratio, on ties that of the least owner
+-- of the rows that bound the move and have owners below n, the one of least ratio, on ties that of
+-- the least owner
 abbrev pub least : Table → Move → ℕ → Option ℕ
 least t m zero = None
 least t m (suc n) = lesser t m (least t m n) (bounding t m n)

@@ -42,7 +42,8 @@ RatiosFit t m n = (w r : ℕ) → w < n → bounding t m w ≡ Some r → RatioF
 
 -- all ratios that the rule makes on these rows
 abbrev pub RuleFits : Table → ℕ → Type 0
-RuleFits t u = is_positive (sample t u) ≡ false → (m : Move) → entering t u ≡ Some m → RatiosFit t m (size t)
+RuleFits t u = is_positive (sample t u) ≡ false → (m : Move) → entering t u ≡ Some m
+    → RatiosFit t m (size t)
 
 -- and the pivot that it then makes
 abbrev pub NextFits : Table → ℕ → Type 0
@@ -146,10 +147,13 @@ Advances old new u (Err step) = (new ≡ old) × StepJams old u step
 
 -- ---- what a peak says
 
--- u grows without bound along the column of ray: there it stands by any rise above its sample, while the other columns' unknowns stay
+-- u grows without bound along the column of ray: there it stands by any rise above its sample,
+-- while the other columns' unknowns stay
 pub record GrowsAlong (t : Table) (u ray : ℕ) : Type 0 where
   pub owns : OwnsColumn t ray
-  pub rises : (rise : ℚ) → zero_ℚ ≤ℚ rise → (v : Point) × IsSolution t v × IsWithin t v × (v u ≡ sample t u +ℚ rise) × ((c : ℕ) → c < length t.columns → column t c ≢ ray → v (column t c) ≡ sample t (column t c))
+  pub rises : (rise : ℚ) → zero_ℚ ≤ℚ rise → (v : Point) × IsSolution t v × IsWithin t v
+      × (v u ≡ sample t u +ℚ rise) × ((c : ℕ) → c < length t.columns → column t c ≢ ray
+      → v (column t c) ≡ sample t (column t c))
 
 -- the sample is the greatest value, and not positive
 pub record IsGreatest (t : Table) (u : ℕ) : Type 0 where

@@ -8,7 +8,8 @@ use Rattle.esc_frac.specs.Rational.{ℚ, zero_ℚ, ◌≤ℚ◌}
 use Rattle.esc_rows.specs.Rows.{Point, RowHolds, solved, solved_constant, eliminated, eliminated_constants}
 use Rattle.esc_tableau.specs.declared.owner.Owner.{Owner}
 
--- An unknown is its number. Each row's owner is the sum of its entries times the columns' unknowns, and of its constant.
+-- An unknown is its number. Each row's owner is the sum of its entries times the columns' unknowns,
+-- and of its constant.
 pub record Table : Type 0 where
   pub owners : List Owner
   pub columns : List Owner
@@ -67,7 +68,8 @@ OwnsColumn t u = column_of t u < length t.columns
 
 -- each row holds
 abbrev pub IsSolution : Table → Point → Type 0
-IsSolution t v = (r : ℕ) → r < length t.owners → RowHolds v (unknowns t.columns) (owner t r) (row_entries t r) (row_constant t r)
+IsSolution t v = (r : ℕ) → r < length t.owners → RowHolds v (unknowns t.columns) (owner t r)
+    (row_entries t r) (row_constant t r)
 
 abbrev pub is_marked : ℕ → Owner → Bool
 is_marked u o = holds u o && o.restricted
@@ -88,7 +90,8 @@ sample t u = row_constant t (row_of t u)
 
 -- the unknowns are the numbers from 0 on, and each owns one row or one column
 abbrev pub IsNumbered : Table → Type 0
-IsNumbered t = (u : ℕ) → count_by (holds u) t.owners + count_by (holds u) t.columns ≡ (if nat_lt u (size t) then 1 else 0)
+IsNumbered t = (u : ℕ) → count_by (holds u) t.owners + count_by (holds u) t.columns
+    ≡ (if nat_lt u (size t) then 1 else 0)
 
 -- as many entries and constants as there are rows, and an entry for each column
 pub record IsTable (t : Table) : Type 0 where
@@ -122,13 +125,15 @@ abbrev pub table : List Owner → List Owner → List (List ℚ) → List ℚ �
 table os cs ess ks = record { owners = os; columns = cs; entries = ess; constants = ks }
 
 abbrev pub coded_owner : Coded Owner
-coded_owner = code_by (ℕ × Bool) (coded× coded_ℕ coded_bool) (λ o. (o.unknown, o.restricted)) (λ p. record { unknown = p.0; restricted = p.1 }) (λ _. refl)
+coded_owner = code_by (ℕ × Bool) (coded× coded_ℕ coded_bool) (λ o. (o.unknown, o.restricted))
+    (λ p. record { unknown = p.0; restricted = p.1 }) (λ _. refl)
 
 -- as the lists that it is made of
 abbrev pub coded_table : Coded Table
 coded_table =
     code_by (List Owner × (List Owner × (List (List ℚ) × List ℚ)))
-    (coded× (coded_list coded_owner) (coded× (coded_list coded_owner) (coded× (coded_list (coded_list coded_ℚ)) (coded_list coded_ℚ))))
+    (coded× (coded_list coded_owner) (coded× (coded_list coded_owner)
+    (coded× (coded_list (coded_list coded_ℚ)) (coded_list coded_ℚ))))
     (λ t. (t.owners, (t.columns, (t.entries, t.constants))))
     (λ p. table p.0 p.1.0 p.1.1.0 p.1.1.1)
     (λ _. refl)

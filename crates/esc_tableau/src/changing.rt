@@ -80,7 +80,8 @@ impl Grid {
         ensures same { table_of self.new ≡ table_of self.old }
         ensures owners { OnOk result (vec_len self.new.owners < vec_capacity self.new.owners) }
         ensures entries { OnOk result (vec_len self.new.entries < vec_capacity self.new.entries) }
-        ensures constants { OnOk result (vec_len self.new.constants < vec_capacity self.new.constants) }
+        ensures constants { OnOk result (vec_len self.new.constants
+            < vec_capacity self.new.constants) }
     {
         self.owners.reserve(1)?;
         self.entries.reserve(1)?;
@@ -110,7 +111,8 @@ impl Grid {
         requires parts { All (λ part. part.unknown < size (table_of self.now)) parts.now }
         requires lengths { length entries.old ≡ length self.now.columns.items }
         ensures fits { IsOk result ↔ PartsFit (table_of self.now) (sum entries.old held) parts.now }
-        ensures ok { IfOk result (λ k. sum entries.new k ≡ plus_parts (table_of self.now) (sum entries.old held) parts.now) }
+        ensures ok { IfOk result (λ k. sum entries.new k
+            ≡ plus_parts (table_of self.now) (sum entries.old held) parts.now) }
     {
         let mut total = held;
         for (place, part) in parts.iter().enumerate() {
@@ -125,7 +127,8 @@ impl Grid {
         requires unknown { part.unknown < size (table_of self.now) }
         requires lengths { length entries.old ≡ length self.now.columns.items }
         ensures fits { IsOk result ↔ PartFits (table_of self.now) (sum entries.old held) part }
-        ensures ok { IfOk result (λ k. sum entries.new k ≡ plus_part (table_of self.now) (sum entries.old held) part) }
+        ensures ok { IfOk result (λ k. sum entries.new k
+            ≡ plus_part (table_of self.now) (sum entries.old held) part) }
     {
         let column = place_of(&self.columns, part.unknown);
         if column < self.columns.len() {
@@ -147,8 +150,10 @@ impl Grid {
         requires table { IsTable (table_of self.now) }
         requires row { row < length self.now.owners.items }
         requires lengths { length entries.old ≡ length self.now.columns.items }
-        ensures fits { IsOk result ↔ OwnerFits (table_of self.now) (sum entries.old held) factor row }
-        ensures ok { IfOk result (λ k. sum entries.new k ≡ plus_owner (table_of self.now) (sum entries.old held) factor row) }
+        ensures fits { IsOk result ↔ OwnerFits (table_of self.now) (sum entries.old held)
+            factor row }
+        ensures ok { IfOk result (λ k. sum entries.new k
+            ≡ plus_owner (table_of self.now) (sum entries.old held) factor row) }
     {
         add_multiple(factor, entries, &self.entries[row])?;
         step(held, factor, self.constants[row])
@@ -158,7 +163,8 @@ impl Grid {
     pub fn drop_last(&mut self)
         requires table { IsTable (table_of self.old) }
         requires row { OwnsRow (table_of self.old) (size (table_of self.old) - 1) }
-        ensures { table_of self.new ≡ without_row (table_of self.old) (row_of (table_of self.old) (size (table_of self.old) - 1)) }
+        ensures { table_of self.new ≡ without_row (table_of self.old)
+            (row_of (table_of self.old) (size (table_of self.old) - 1)) }
     {
         let row = place_of(&self.owners, Unknown::numbered(self.count() - 1));
         let _owner = self.owners.remove(row);
@@ -169,7 +175,8 @@ impl Grid {
     /// A copy of the rows.
     pub fn rows(&self, alloc: Global) -> Result<Rows, AllocError>
         requires { IsTable (table_of self.now) }
-        ensures restricted { IfOk result (λ rows. rows.restricted ≡ restricted_in (self.now.owners.items ++ self.now.columns.items)) }
+        ensures restricted { IfOk result (λ rows. rows.restricted
+            ≡ restricted_in (self.now.owners.items ++ self.now.columns.items)) }
         ensures rows { IfOk result (λ rows. tabled rows ≡ table_of self.now) }
     {
         let mut restricted = Unknowns::new(alloc);

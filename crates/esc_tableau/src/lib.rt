@@ -5,6 +5,7 @@
 mod answers;
 mod changing;
 mod grid;
+mod laws;
 mod listed;
 mod lists;
 mod maximising;
@@ -15,6 +16,7 @@ mod unknown;
 
 pub use answers::{Jam, Peak, RowStop, Step};
 pub use changing::{Part, Parts};
+pub use laws::table_laws;
 pub use listed::Rows;
 pub use lists::{FracLists, Fracs, Unknowns};
 pub use tableau::Tableau;

@@ -52,6 +52,13 @@ impl Unknowns {
         self.owners.len()
     }
 
+    /// A copy, where there is memory for it.
+    pub fn copy(&self, alloc: Global) -> Result<Unknowns, AllocError>
+        ensures { IfOk result (λ us. us ≡ self.now) }
+    {
+        Unknowns::of_owners(alloc, &self.owners)
+    }
+
     /// The unknown at a place.
     pub fn get(&self, place: usize) -> Option<Unknown>
         ensures { result ≡ slice_get self.now place }
@@ -153,6 +160,13 @@ impl Fracs {
         self.items.as_slice()
     }
 
+    /// A copy, where there is memory for it.
+    pub fn copy(&self, alloc: Global) -> Result<Fracs, AllocError>
+        ensures { IfOk result (λ fs. fs ≡ self.now) }
+    {
+        Fracs::of_slice(alloc, &self.items)
+    }
+
     pub fn of_slice(alloc: Global, items: &[Frac]) -> Result<Fracs, AllocError>
         ensures { IfOk result (λ fs. fs ≡ items.now) }
     {
@@ -220,6 +234,13 @@ impl FracLists {
         ensures { result.now ≡ get_or self.now place [] }
     {
         &self.lists[place]
+    }
+
+    /// A copy, where there is memory for it.
+    pub fn copy(&self, alloc: Global) -> Result<FracLists, AllocError>
+        ensures { IfOk result (λ fs. fs ≡ self.now) }
+    {
+        FracLists::of_slice(alloc, &self.lists)
     }
 
     pub fn of_slice(alloc: Global, lists: &[Vec<Frac>]) -> Result<FracLists, AllocError>

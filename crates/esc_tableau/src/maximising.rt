@@ -63,10 +63,12 @@ impl Grid {
         requires row { row < length self.old.owners.items }
         requires column { column < length self.old.columns.items }
         requires nonzero { (entry (table_of self.old) row column).num ≢ pos 0 }
-        ensures fits { IsOk result ↔ PivotFits (table_of self.old).entries (table_of self.old).constants row column }
+        ensures fits { IsOk result ↔ PivotFits (table_of self.old).entries
+            (table_of self.old).constants row column }
         ensures ok { OnOk result (table_of self.new ≡ pivoted (table_of self.old) row column) }
         ensures err { OnErr result (table_of self.new ≡ table_of self.old) }
-        ensures step { IfErr result (λ step. step ≡ Step.Pivot (owner (table_of self.old) row) (unknown_at (table_of self.old) column)) }
+        ensures step { IfErr result (λ step. step ≡ Step.Pivot (owner (table_of self.old) row)
+            (unknown_at (table_of self.old) column)) }
         ensures table { IsTable (table_of self.new) }
         ensures same { SameSystem (table_of self.old) (table_of self.new) }
     {

@@ -4,7 +4,7 @@ ghost use Rattle.esc_frac.specs.Fits.{QuotientFits};
 ghost use Rattle.esc_tableau.specs.Grid.{table_of};
 ghost use Rattle.esc_tableau.specs.Rule.{is_positive, absolute, slope, way, improving, entering, is_against, bounding, ratio, leaving, next};
 ghost use Rattle.esc_tableau.specs.Run.{RuleFits, RatiosFit, RuleJams};
-ghost use Rattle.esc_tableau.specs.Bound.{BoundFits, LeavingJams, better};
+ghost use Rattle.esc_tableau.specs.BoundInside.{BoundFits, LeavingJams, better};
 ghost use Rattle.esc_tableau.specs.Table.{IsTable, size, entry, row_constant, sample};
 
 use crate::grid::Grid;
@@ -97,7 +97,8 @@ fn lesser(best: Option<Bound>, row: usize, ratio: Frac) -> Result<Bound, Spill>
 }
 
 impl Grid {
-    /// What maximising the unknown has next. `Step` where a ratio that bounds the move does not fit.
+    /// What maximising the unknown has next. `Step` where a ratio that bounds the move does not
+    /// fit.
     pub fn next(&self, unknown: Unknown) -> Result<Next, Step>
         requires { IsTable (table_of self.now) }
         ensures next { IfOk result (λ n. n ≡ next (table_of self.now) unknown) }
@@ -168,7 +169,8 @@ impl Grid {
         requires table { IsTable (table_of self.now) }
         requires column { entrant.column < length self.now.columns.items }
         ensures leaving { IfOk result (λ row. row ≡ leaving (table_of self.now) entrant) }
-        ensures fits { IsOk result → RatiosFit (table_of self.now) entrant (size (table_of self.now)) }
+        ensures fits { IsOk result → RatiosFit (table_of self.now) entrant
+            (size (table_of self.now)) }
         ensures jams { IfErr result (LeavingJams (table_of self.now) entrant) }
     {
         let mut best = None;
@@ -191,7 +193,10 @@ impl Grid {
         requires column { entrant.column < length self.now.columns.items }
         requires row { row < length self.now.owners.items }
         requires nonzero { (absolute (entry (table_of self.now) row entrant.column)).num ≢ pos 0 }
-        ensures { OkIff result (QuotientFits (row_constant (table_of self.now) row) (absolute (entry (table_of self.now) row entrant.column)) × BoundFits best (ratio (table_of self.now) entrant row)) (better best row (ratio (table_of self.now) entrant row)) }
+        ensures { OkIff result (QuotientFits (row_constant (table_of self.now) row)
+            (absolute (entry (table_of self.now) row entrant.column))
+            × BoundFits best (ratio (table_of self.now) entrant row))
+            (better best row (ratio (table_of self.now) entrant row)) }
     {
         let ratio = Frac::div(
             self.constants[row],

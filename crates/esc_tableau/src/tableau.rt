@@ -1,16 +1,17 @@
-ghost use Rattle.std.specs.Prelude.{◌≡◌, ◌≢◌, ◌↔◌, ℕ, ◌-◌, ◌<◌, true, false, [], ◌++◌, All, length, pos, Ok, Err, IsOk, OnOk, OnErr, IfOk, IfErr};
+ghost use Rattle.std.specs.Prelude.{◌≡◌, ◌≢◌, ◌↔◌, ℕ, ◌-◌, ◌<◌, true, false, [], ◌++◌, All, length, pos, Some, Ok, Err, IsOk, OnOk, OnErr, IfOk, IfErr};
 ghost use Rattle.esc_frac.specs.Rational.{zero_ℚ, ◌≤ℚ◌};
 ghost use Rattle.esc_tableau.specs.Changes.{RowEnds, AddsColumn, AddsRow, DropsRow, Restricts, Frees, with_column, without_row, with_mark};
 ghost use Rattle.esc_tableau.specs.Listed.{tabled, restricted_in};
 ghost use Rattle.esc_rows.specs.Steps.{PivotFits};
 ghost use Rattle.esc_tableau.specs.Table.{IsTable, IsSolution, IsWithin, SameSystem, OwnsRow, OwnsColumn, row_of, column_of, column, entry, pivoted, table, size, sample};
+ghost use Rattle.esc_tableau.specs.Rule.{next};
 ghost use Rattle.esc_tableau.specs.Run.{Ends, PeakHolds};
 
 use crate::changing::Parts;
 use crate::grid::Grid;
-use crate::owner::place_of;
+use crate::rule::Next;
 use crate::{Jam, Peak, RowStop, Rows, Step, Unknown};
-use esc_frac::{Frac, Spill};
+use esc_frac::Frac;
 use std::alloc::{AllocError, Global};
 use std::marker::Model;
 
@@ -42,6 +43,7 @@ impl Tableau {
     pub fn new(alloc: Global) -> Tableau
         ensures empty { result ≡ table [] [] [] [] }
         ensures within { IsWithin result (sample result) }
+        ensures table { IsTable result }
     {
         Tableau {
             grid: Grid {
@@ -61,11 +63,13 @@ impl Tableau {
         self.grid.count()
     }
 
-    /// The unknown's value in the sample, the solution in which each unknown that owns a column is 0.
+    /// The unknown's value in the sample, the solution in which each unknown that owns a column is
+    /// 0.
     pub fn value(&self, unknown: Unknown) -> Frac
         ensures value { result ≡ sample self.now unknown }
         ensures solution { IsSolution self.now (sample self.now) }
-        ensures columns { (c : ℕ) → c < length self.now.columns → sample self.now (column self.now c) ≡ zero_ℚ }
+        ensures columns { (c : ℕ) → c < length self.now.columns
+            → sample self.now (column self.now c) ≡ zero_ℚ }
     {
         self.grid.value(unknown)
     }
@@ -76,26 +80,25 @@ impl Tableau {
     pub fn pivot(&mut self, row: Unknown, column: Unknown) -> Result<(), Step>
         requires row { OwnsRow self.old row }
         requires column { OwnsColumn self.old column }
-        requires nonzero { (entry self.old (row_of self.old row) (column_of self.old column)).num ≢ pos 0 }
-        ensures fits { IsOk result ↔ PivotFits self.old.entries self.old.constants (row_of self.old row) (column_of self.old column) }
-        ensures ok { OnOk result (self.new ≡ pivoted self.old (row_of self.old row) (column_of self.old column)) }
+        requires nonzero { (entry self.old (row_of self.old row) (column_of self.old column)).num
+            ≢ pos 0 }
+        ensures fits { IsOk result ↔ PivotFits self.old.entries self.old.constants
+            (row_of self.old row) (column_of self.old column) }
+        ensures ok { OnOk result (self.new ≡ pivoted self.old (row_of self.old row)
+            (column_of self.old column)) }
         ensures err { OnErr result (self.new ≡ self.old) }
         ensures step { IfErr result (λ step. step ≡ Step.Pivot row column) }
         ensures same { SameSystem self.old self.new }
+        ensures table { IsTable self.new }
     {
-        let place = place_of(&self.grid.owners, row);
-        let entrant = place_of(&self.grid.columns, column);
-        match self.grid.pivot(place, entrant, self.alloc) {
-            Ok(()) => Ok(()),
-            Err(Spill) => Err(Step::Pivot { row, column }),
-        }
+        self.grid.exchange(row, column, self.alloc)
     }
 
-    /// Maximises the unknown by Bland's rule, with at most `limit` pivots. `NotPositive`: its sample
-    /// is its greatest value within the restrictions, and not positive. `Positive`: its sample is
-    /// positive, or it grows without bound along the column of the ray. `Pivots`: the rule has one
-    /// more pivot than the limit allows. `Spill`: its next step does not fit. The pivots made so
-    /// far stand.
+    /// Maximises the unknown by Bland's rule, with at most `limit` pivots. `NotPositive`: its
+    /// sample is its greatest value within the restrictions, and not positive. `Positive`: its
+    /// sample is positive, or it grows without bound along the column of the ray. `Pivots`: the
+    /// rule has one more pivot than the limit allows. `Spill`: its next step does not fit. The
+    /// pivots made so far stand.
     pub fn maximise(&mut self, unknown: Unknown, limit: u64) -> Result<Peak, Jam>
         requires unknown { unknown < size self.old }
         requires within { IsWithin self.old (sample self.old) }
@@ -103,8 +106,30 @@ impl Tableau {
         ensures peak { IfOk result (PeakHolds self.new unknown) }
         ensures same { SameSystem self.old self.new }
         ensures within { IsWithin self.new (sample self.new) }
+        ensures row { OwnsRow self.old unknown → OwnsRow self.new unknown }
+        ensures table { IsTable self.new }
     {
         self.grid.maximise(unknown, limit, self.alloc)
+    }
+
+    /// Solves the row of an unknown for the column along which it grows without bound: it stands at
+    /// 0 in the sample then. `Step` where a step does not fit: the tableau is then unchanged.
+    pub fn raise(&mut self, unknown: Unknown, ray: Unknown) -> Result<(), Step>
+        requires row { OwnsRow self.old unknown }
+        requires ray { next self.old unknown ≡ Next.Stops (Peak.Positive (Some ray)) }
+        requires within { IsWithin self.old (sample self.old) }
+        ensures fits { IsOk result ↔ PivotFits self.old.entries self.old.constants
+            (row_of self.old unknown) (column_of self.old ray) }
+        ensures ok { OnOk result (self.new ≡ pivoted self.old (row_of self.old unknown)
+            (column_of self.old ray)) }
+        ensures err { OnErr result (self.new ≡ self.old) }
+        ensures step { IfErr result (λ step. step ≡ Step.Pivot unknown ray) }
+        ensures zero { OnOk result (sample self.new unknown ≡ zero_ℚ) }
+        ensures same { SameSystem self.old self.new }
+        ensures within { IsWithin self.new (sample self.new) }
+        ensures table { IsTable self.new }
+    {
+        self.grid.exchange(unknown, ray, self.alloc)
     }
 
     /// Makes an unknown that owns a column: the rows say nothing of it.
@@ -113,16 +138,18 @@ impl Tableau {
         ensures ok { OnOk result (self.new ≡ with_column self.old) }
         ensures err { OnErr result (self.new ≡ self.old) }
         ensures adds { OnOk result (AddsColumn self.old self.new) }
+        ensures table { IsTable self.new }
     {
         self.grid.add_column()
     }
 
-    /// Makes an unknown that owns a row: the sum of the parts and the constant. `Spill` where a step
-    /// of making the row does not fit. After a refusal the tableau is unchanged.
+    /// Makes an unknown that owns a row: the sum of the parts and the constant. `Spill` where a
+    /// step of making the row does not fit. After a refusal the tableau is unchanged.
     pub fn add_row(&mut self, parts: &Parts, constant: Frac) -> Result<Unknown, RowStop>
         requires { All (λ part. part.unknown < size self.old) parts.now }
         ensures ends { RowEnds self.old self.new parts.now constant result }
         ensures adds { OnOk result (AddsRow self.old self.new parts.now constant) }
+        ensures table { IsTable self.new }
     {
         self.grid.add_row(parts.as_slice(), constant, self.alloc)
     }
@@ -132,6 +159,7 @@ impl Tableau {
         requires { OwnsRow self.old (size self.old - 1) }
         ensures left { self.new ≡ without_row self.old (row_of self.old (size self.old - 1)) }
         ensures drops { DropsRow self.old self.new }
+        ensures table { IsTable self.new }
     {
         self.grid.drop_last();
     }
@@ -142,22 +170,24 @@ impl Tableau {
         requires sample { zero_ℚ ≤ℚ sample self.old unknown }
         ensures marked { self.new ≡ with_mark self.old unknown true }
         ensures restricts { Restricts self.old self.new unknown }
+        ensures table { IsTable self.new }
     {
         self.grid.mark(unknown, true);
     }
 
-    /// Takes the unknown's restriction away.
+    /// Takes the unknown's restriction away, where it has one.
     pub fn free(&mut self, unknown: Unknown)
-        requires { unknown < size self.old }
         ensures marked { self.new ≡ with_mark self.old unknown false }
         ensures frees { Frees self.old self.new unknown }
+        ensures table { IsTable self.new }
     {
         self.grid.mark(unknown, false);
     }
 
     /// A copy of the rows, with the restricted unknowns.
     pub fn rows(&self) -> Result<Rows, AllocError>
-        ensures restricted { IfOk result (λ rows. rows.restricted ≡ restricted_in (self.now.owners ++ self.now.columns)) }
+        ensures restricted { IfOk result (λ rows. rows.restricted
+            ≡ restricted_in (self.now.owners ++ self.now.columns)) }
         ensures rows { IfOk result (λ rows. tabled rows ≡ self.now) }
         ensures table { IfOk result (λ rows. IsTable (tabled rows)) }
         ensures among { IfOk result (λ rows. All (λ u. u < size (tabled rows)) rows.restricted) }
@@ -172,6 +202,7 @@ impl Tableau {
         requires within { IsWithin (tabled rows) (sample (tabled rows)) }
         ensures rows { self.new ≡ tabled rows }
         ensures within { IsWithin self.new (sample self.new) }
+        ensures table { IsTable self.new }
     {
         let Rows {
             owners,

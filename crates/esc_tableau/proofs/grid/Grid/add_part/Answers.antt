@@ -11,20 +11,28 @@ pub add_owner-requires-clause-row : goal.add_owner-requires-clause-row
 add_owner-requires-clause-row c =
     let t = table_of c.args.self.now in
     let u = c.args.part.unknown in
-    let row : c.place_of-row.result ≡ row_of t u = c.place_of-row.ensures ∙ ap (λ os. place_of os u) c.deref-2.ensures.value in
-    let column : c.place_of-column.result ≡ column_of t u = c.place_of-column.ensures ∙ ap (λ os. place_of os u) c.deref.ensures.value in
-    let past : length t.columns ≤ column_of t u = omega (arith, c.args.self.now.columns.ok.0, column) in
-    subst (λ r. r < length t.owners) (sym row) (row_where_no_column t c.requires.table u c.requires.unknown past)
+    let row : c.place_of-row.result ≡ row_of t u = c.place_of-row.ensures
+    ∙ ap (λ os. place_of os u) c.deref-2.ensures.value in
+    let column : c.place_of-column.result ≡ column_of t u = c.place_of-column.ensures
+    ∙ ap (λ os. place_of os u) c.deref.ensures.value in
+    let past : length t.columns ≤ column_of t u = omega
+    (arith, c.args.self.now.columns.ok.0, column) in
+    subst (λ r. r < length t.owners) (sym row) (row_where_no_column t c.requires.table u
+    c.requires.unknown past)
 
 pub returns-clause-fits : goal.returns-clause-fits
 returns-clause-fits c =
     let t = table_of c.args.self.now in
     let u = c.args.part.unknown in
-    let row : c.place_of-row.result ≡ row_of t u = c.place_of-row.ensures ∙ ap (λ os. place_of os u) c.deref-2.ensures.value in
-    let column : c.place_of-column.result ≡ column_of t u = c.place_of-column.ensures ∙ ap (λ os. place_of os u) c.deref.ensures.value in
-    let past : length t.columns ≤ column_of t u = omega (arith, c.args.self.now.columns.ok.0, column) in
+    let row : c.place_of-row.result ≡ row_of t u = c.place_of-row.ensures
+    ∙ ap (λ os. place_of os u) c.deref-2.ensures.value in
+    let column : c.place_of-column.result ≡ column_of t u = c.place_of-column.ensures
+    ∙ ap (λ os. place_of os u) c.deref.ensures.value in
+    let past : length t.columns ≤ column_of t u = omega
+    (arith, c.args.self.now.columns.ok.0, column) in
     let fits = OwnerFits t (sum c.args.entries.now c.args.held) c.args.part.factor in (
-      λ ok. PartFits-owner t c.args.entries.now c.args.held c.args.part past (subst fits row (c.add_owner.ensures.fits.0 ok)),
+      λ ok. PartFits-owner t c.args.entries.now c.args.held c.args.part past
+          (subst fits row (c.add_owner.ensures.fits.0 ok)),
       λ h. c.add_owner.ensures.fits.1 (subst fits (sym row) (h.owner past)),
     )
 
@@ -32,8 +40,13 @@ pub returns-clause-ok : goal.returns-clause-ok
 returns-clause-ok c =
     let t = table_of c.args.self.now in
     let u = c.args.part.unknown in
-    let row : c.place_of-row.result ≡ row_of t u = c.place_of-row.ensures ∙ ap (λ os. place_of os u) c.deref-2.ensures.value in
-    let column : c.place_of-column.result ≡ column_of t u = c.place_of-column.ensures ∙ ap (λ os. place_of os u) c.deref.ensures.value in
-    let past : length t.columns ≤ column_of t u = omega (arith, c.args.self.now.columns.ok.0, column) in
+    let row : c.place_of-row.result ≡ row_of t u = c.place_of-row.ensures
+    ∙ ap (λ os. place_of os u) c.deref-2.ensures.value in
+    let column : c.place_of-column.result ≡ column_of t u = c.place_of-column.ensures
+    ∙ ap (λ os. place_of os u) c.deref.ensures.value in
+    let past : length t.columns ≤ column_of t u = omega
+    (arith, c.args.self.now.columns.ok.0, column) in
     subst (λ (s : Sum). IfOk c.add_owner.result (λ k. sum c.add_owner.new.entries k ≡ s))
-    (ap (plus_owner t (sum c.args.entries.now c.args.held) c.args.part.factor) row ∙ sym (plus_part-owner t c.args.entries.now c.args.held c.args.part past)) c.add_owner.ensures.ok
+    (ap (plus_owner t (sum c.args.entries.now c.args.held) c.args.part.factor) row
+    ∙ sym (plus_part-owner t c.args.entries.now c.args.held c.args.part past))
+    c.add_owner.ensures.ok

@@ -11,7 +11,11 @@ returns c =
     let t = table_of c.args.self.now in
     let grid = c.args.self.now in
     let last = c.numbered.ensures ∙ ap (λ n. n - 1) c.count.ensures in
-    let row : c.place_of-row.result ≡ row_of t (size t - 1) = c.place_of-row.ensures ∙ ap (λ os. place_of os c.numbered.result) c.deref.ensures.value ∙ ap (place_of grid.owners.items) last in
+    let row : c.place_of-row.result ≡ row_of t (size t - 1) = c.place_of-row.ensures
+    ∙ ap (λ os. place_of os c.numbered.result) c.deref.ensures.value
+    ∙ ap (place_of grid.owners.items) last in
     same_table (c.remove-owner.ensures.items ∙ ap (remove grid.owners.items) row) refl
-    (ap (map (λ es. es.items)) c.remove-entries.ensures.items ∙ map-remove (λ es. es.items) grid.entries.items c.place_of-row.result ∙ ap (remove (map (λ es. es.items) grid.entries.items)) row)
+    (ap (map (λ es. es.items)) c.remove-entries.ensures.items
+    ∙ map-remove (λ es. es.items) grid.entries.items c.place_of-row.result
+    ∙ ap (remove (map (λ es. es.items) grid.entries.items)) row)
     (c.remove-constant.ensures.items ∙ ap (remove grid.constants.items) row)

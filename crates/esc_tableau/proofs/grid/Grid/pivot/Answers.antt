@@ -16,19 +16,33 @@ returns-clause-ok c =
     let row = c.args.row in
     let column = c.args.column in
     same_table
-    (ap (set grid.owners.items row) (c.swap.ensures.x_after ∙ get_or_read grid.columns.items column _ c.requires.column c.index_mut-2.ensures.value nobody))
-    (ap (set grid.columns.items column) (c.swap.ensures.y_after ∙ get_or_read grid.owners.items row _ c.requires.row c.index_mut.ensures.value nobody))
-    (ap (map (λ es. es.items)) (items-with_items grid.entries c.write_pivot.new.rows (c.write_pivot.auto.rows ∙ ap length c.deref_mut.ensures.value))
+    (ap (set grid.owners.items row) (c.swap.ensures.x_after
+    ∙ get_or_read grid.columns.items column _ c.requires.column c.index_mut-2.ensures.value
+    nobody))
+    (ap (set grid.columns.items column) (c.swap.ensures.y_after
+    ∙ get_or_read grid.owners.items row _ c.requires.row c.index_mut.ensures.value nobody))
+    (ap (map (λ es. es.items)) (items-with_items grid.entries c.write_pivot.new.rows
+    (c.write_pivot.auto.rows ∙ ap length c.deref_mut.ensures.value))
     ∙ c.write_pivot.ensures.rows
-    ∙ ap (λ (ess : List (List ℚ)). set (map (λ es. eliminated es column (solved (get_or ess row []) column)) ess) row (solved (get_or ess row []) column)) (ap (map (λ es. es.items)) c.deref_mut.ensures.value))
-    (items-with_items grid.constants c.write_pivot.new.constants (c.write_pivot.auto.constants ∙ ap length c.deref_mut-2.ensures.value)
+    ∙ ap (λ (ess : List (List ℚ)). set (map (λ es. eliminated es column
+    (solved (get_or ess row []) column)) ess) row (solved (get_or ess row []) column))
+    (ap (map (λ es. es.items)) c.deref_mut.ensures.value))
+    (items-with_items grid.constants c.write_pivot.new.constants (c.write_pivot.auto.constants
+    ∙ ap length c.deref_mut-2.ensures.value)
     ∙ c.write_pivot.ensures.constants
-    ∙ ap₂ (λ (ess : List (List ℚ)) (ks : List ℚ). set (eliminated_constants ess ks column (solved_constant (get_or ess row []) column (get_or ks row zero_ℚ))) row (solved_constant (get_or ess row []) column (get_or ks row zero_ℚ))) (ap (map (λ es. es.items)) c.deref_mut.ensures.value) c.deref_mut-2.ensures.value)
+    ∙ ap₂ (λ (ess : List (List ℚ)) (ks : List ℚ). set
+    (eliminated_constants ess ks column (solved_constant (get_or ess row []) column
+    (get_or ks row zero_ℚ))) row (solved_constant (get_or ess row []) column
+    (get_or ks row zero_ℚ))) (ap (map (λ es. es.items)) c.deref_mut.ensures.value)
+    c.deref_mut-2.ensures.value)
 
 pub returns-clause-table : goal.returns-clause-table
 returns-clause-table c =
-    subst IsTable (sym (returns-clause-ok c)) (IsTable-pivoted (table_of c.args.self.now) c.requires.table c.args.row c.args.column c.requires.row c.requires.column)
+    subst IsTable (sym (returns-clause-ok c)) (IsTable-pivoted (table_of c.args.self.now)
+    c.requires.table c.args.row c.args.column c.requires.row c.requires.column)
 
 pub returns-clause-same : goal.returns-clause-same
 returns-clause-same c =
-    subst (SameSystem (table_of c.args.self.now)) (sym (returns-clause-ok c)) (SameSystem-pivoted (table_of c.args.self.now) c.requires.table c.args.row c.args.column c.requires.row c.requires.column c.requires.nonzero)
+    subst (SameSystem (table_of c.args.self.now)) (sym (returns-clause-ok c))
+    (SameSystem-pivoted (table_of c.args.self.now) c.requires.table c.args.row c.args.column
+    c.requires.row c.requires.column c.requires.nonzero)

@@ -10,7 +10,8 @@ use Rattle.esc_tableau.proofs.ChangeLaws.{IsTable-with_mark}
 use Rattle.esc_tableau.proofs.tableau.Tableau.restrict.Goals as goal
 
 pub invariant_of-self : goal.invariant_of-self
-invariant_of-self c = subst IsTable (sym c.mark.ensures) (IsTable-with_mark (table_of c.self.inside.grid) c.args.unknown true c.self.invariant)
+invariant_of-self c = subst IsTable (sym c.mark.ensures)
+    (IsTable-with_mark (table_of c.self.inside.grid) c.args.unknown true c.self.invariant)
 
 pub returns-clause-restricts : goal.returns-clause-restricts
 returns-clause-restricts c =
@@ -18,4 +19,10 @@ returns-clause-restricts c =
     let u = c.args.unknown in
     subst (λ (t : Table). Restricts t (table_of c.mark.new.self) u) c.self.view_is
     (subst (λ (t : Table). Restricts old t u) (sym c.mark.ensures)
-    (Restricts-with_mark old c.self.invariant u (subst (λ (t : Table). u < size t) (sym c.self.view_is) c.requires.unknown) (subst (λ (t : Table). zero_ℚ ≤ℚ sample t u) (sym c.self.view_is) c.requires.sample)))
+    (Restricts-with_mark old c.self.invariant u (subst (λ (t : Table). u < size t)
+    (sym c.self.view_is) c.requires.unknown) (subst (λ (t : Table). zero_ℚ ≤ℚ sample t u)
+    (sym c.self.view_is) c.requires.sample)))
+
+pub returns-clause-table : goal.returns-clause-table
+returns-clause-table c = subst IsTable (sym c.mark.ensures)
+    (IsTable-with_mark (table_of c.self.inside.grid) c.args.unknown true c.self.invariant)

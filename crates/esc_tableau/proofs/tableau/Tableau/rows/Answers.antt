@@ -10,7 +10,9 @@ use Rattle.esc_tableau.proofs.tableau.Tableau.rows.Goals as goal
 pub returns-clause-table : goal.returns-clause-table
 returns-clause-table c =
     let t = table_of c.self.inside.grid in
-    IfOk-weaker (λ (rows : Rows). tabled rows ≡ t) (λ (rows : Rows). IsTable (tabled rows)) (λ rows e. subst IsTable (sym e) c.self.invariant) c.rows.result c.rows.ensures.rows
+    IfOk-weaker (λ (rows : Rows). tabled rows ≡ t) (λ (rows : Rows). IsTable (tabled rows))
+    (λ rows e. subst IsTable (sym e) c.self.invariant) c.rows.result c.rows.ensures.rows
 
 pub returns-clause-among : goal.returns-clause-among
-returns-clause-among c = listed_among (table_of c.self.inside.grid) c.self.invariant c.rows.result c.rows.ensures.restricted c.rows.ensures.rows
+returns-clause-among c = listed_among (table_of c.self.inside.grid) c.self.invariant c.rows.result
+    c.rows.ensures.restricted c.rows.ensures.rows
