@@ -112,8 +112,9 @@ impl Feasible {
     }
 
     // Puts a copy of the rows in their place.
-    fn refill(&mut self) -> Result<(), Fail> {
-        let copy = self.tableau.rows()?;
+    fn refill(&mut self, alloc: Global) -> Result<(), Fail> {
+        let rows = self.tableau.rows()?;
+        let copy = rows.copy(alloc)?;
         self.tableau.put(copy);
         Ok(())
     }
@@ -209,8 +210,8 @@ fn a_negative_greatest_value_is_exact(rt: HostRuntime) -> Result<(), Fail> {
     Ok(())
 }
 
-// a = 2 - y and b = 2 - x - y, all not negative. Raising x makes x = 2 - b - y, at a later place than
-// a. Raising y then has ratio 2 at both rows: x leaves, as the lesser unknown.
+// a = 2 - y and b = 2 - x - y, all not negative. Raising x makes x = 2 - b - y, at a later place
+// than a. Raising y then has ratio 2 at both rows: x leaves, as the lesser unknown.
 #[test]
 fn the_least_owner_leaves_on_ties(rt: HostRuntime) -> Result<(), Fail> {
     let alloc = rt.alloc();
@@ -305,7 +306,8 @@ fn a_pivot_out_of_range_spills(rt: HostRuntime) -> Result<(), Fail> {
     Ok(())
 }
 
-// x rises to 4, where 4 - x is 0, and x - 6 to -2. The rows put back hold x at 4, and bound it still.
+// x rises to 4, where 4 - x is 0, and x - 6 to -2. The rows put back hold x at 4, and bound it
+// still.
 #[test]
 fn rows_are_put_back(rt: HostRuntime) -> Result<(), Fail> {
     let alloc = rt.alloc();
@@ -315,13 +317,14 @@ fn rows_are_put_back(rt: HostRuntime) -> Result<(), Fail> {
     assert!(rt; rows.restrict(left));
     let goal = rows.row(alloc, 1, first, -6)?;
     assert!(rt; rows.ends(goal, 1, Ok(Peak::NotPositive), -2));
-    rows.refill()?;
+    rows.refill(alloc)?;
     assert_eq!(rt; rows.tableau.value(first), Frac::whole(4));
     assert!(rt; rows.ends(goal, 0, Ok(Peak::NotPositive), -2));
     Ok(())
 }
 
-// A row that is made and dropped leaves x - 6 with its bound, x at most 4, and its greatest value -2.
+// A row that is made and dropped leaves x - 6 with its bound, x at most 4, and its greatest value
+// -2.
 #[test]
 fn a_dropped_row_leaves_nothing(rt: HostRuntime) -> Result<(), Fail> {
     let alloc = rt.alloc();

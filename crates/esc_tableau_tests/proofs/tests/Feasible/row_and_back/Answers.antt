@@ -6,4 +6,5 @@ use Rattle.esc_tableau_tests.proofs.tests.Feasible.row_and_back.Goals as goal
 pub drop_last-requires : goal.drop_last-requires
 drop_last-requires c =
     let made = c.in-Ok.ensures.ends.2 in
-    newest_owns c.add_row.new.self _ _ (ap (λ (t : Table). t.owners) made) (ap (λ (t : Table). t.columns) made)
+    newest_owns c.add_row.new.self _ _ (ap (λ (t : Table). t.owners) made)
+    (ap (λ (t : Table). t.columns) made)
