@@ -1,9 +1,11 @@
 pub mod ActiveTerms
 pub mod AtomsLevels
 pub mod ClassLemmas
+pub mod ClassValues
 pub mod CoverLevels
 pub mod CoverOrder
 pub mod ForcedApart
+pub mod Meeting
 pub mod NotRefuted
 pub mod Sound
 pub mod Stays
