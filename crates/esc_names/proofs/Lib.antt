@@ -1,3 +1,4 @@
-pub mod NumberingLemmas
+mod KeyLemmas
+mod NumberingLemmas
 mod ReservedLemmas
-pub mod RowLemmas
+mod RowLemmas

@@ -1,3 +1,4 @@
+pub mod BareNames
 pub mod Numbering
 pub mod Reading
 pub mod Reserved

@@ -28,14 +28,21 @@ impl Model for Names {
 }
 
 impl Names {
+    /// A table without names, which takes no memory.
+    pub fn empty(alloc: Global) -> Names
+        ensures { result ≡ [] }
+    {
+        Names {
+            alloc,
+            spellings: IndexSet::new(alloc),
+        }
+    }
+
     /// The table of the names that are always there.
     pub fn new(alloc: Global) -> Result<Names, AllocError>
         ensures { IfOk result (λ names. names ≡ first_names) }
     {
-        let mut names = Names {
-            alloc,
-            spellings: IndexSet::new(alloc),
-        };
+        let mut names = Names::empty(alloc);
         names.number(b"@true")?;
         names.number(b"select")?;
         names.number(b"store")?;
