@@ -10,7 +10,8 @@ use Rattle.esc_read.specs.declared.token.Token.TheVariants as token
 use Rattle.esc_term.specs.declared.term.Term.{Term}
 use Rattle.esc_read.specs.declared.fault.FormKind.TheVariants.{NotATerm}
 use Rattle.esc_read.specs.Reading.{Reading, refuse}
-use Rattle.esc_read.specs.Tokens.{bare_token, token_step, token_of, place_step, place_of, text_step, text_of, first_token, head_step, head_of, args_step, args_of}
+use Rattle.esc_read.specs.Tokens.{bare_token, token_step, token_of, place_step, place_of, text_step}
+use Rattle.esc_read.specs.Tokens.{text_of, first_token, head_step, head_of, args_step, args_of}
 use Rattle.esc_read.specs.Names.{declared, variables_step, variables}
 use Rattle.esc_read.specs.Terms.{bare_term, name_term, list_term, term_step, term}
 
@@ -50,7 +51,17 @@ pub text_of-List : (place : ℕ) (items : List Sexp) → text_of (Listed place i
 unfolding text_of roll-Sexp roll
 text_of-List place items = ap text_step (out-roll-Sexp (Sexp-F.List place items))
 
-pub ruleset token_levels = (token_of-Bare, token_of-Barred, token_of-List, place_of-Bare, place_of-Barred, place_of-List, text_of-Bare, text_of-Barred, text_of-List)
+pub ruleset token_levels = (
+  token_of-Bare,
+  token_of-Barred,
+  token_of-List,
+  place_of-Bare,
+  place_of-Barred,
+  place_of-List,
+  text_of-Bare,
+  text_of-Barred,
+  text_of-List,
+)
 
 pub head_of-Bare : (place : ℕ) (text : List ℕ) → head_of (Bare place text) ≡ token.List
 unfolding head_of roll-Sexp roll
@@ -60,7 +71,8 @@ pub head_of-Barred : (place : ℕ) (text : List ℕ) → head_of (Barred place t
 unfolding head_of roll-Sexp roll
 head_of-Barred place text = ap head_step (out-roll-Sexp (Sexp-F.Barred place text))
 
-pub head_of-List : (place : ℕ) (items : List Sexp) → head_of (Listed place items) ≡ first_token items
+pub head_of-List : (place : ℕ) (items : List Sexp)
+    → head_of (Listed place items) ≡ first_token items
 unfolding head_of roll-Sexp roll
 head_of-List place items = ap head_step (out-roll-Sexp (Sexp-F.List place items))
 
@@ -76,42 +88,52 @@ pub args_of-List : (place : ℕ) (items : List Sexp) → args_of (Listed place i
 unfolding args_of roll-Sexp roll
 args_of-List place items = ap args_step (out-roll-Sexp (Sexp-F.List place items))
 
-pub ruleset head_levels = (head_of-Bare, head_of-Barred, head_of-List, args_of-Bare, args_of-Barred, args_of-List)
+pub ruleset head_levels =
+    (head_of-Bare, head_of-Barred, head_of-List, args_of-Bare, args_of-Barred, args_of-List)
 
-pub variables-Bare : (place : ℕ) (text : List ℕ) → variables (Bare place text) ≡ refuse NotATerm (place_of (Bare place text))
+pub variables-Bare : (place : ℕ) (text : List ℕ)
+    → variables (Bare place text) ≡ refuse NotATerm (place_of (Bare place text))
 unfolding variables roll-Sexp roll
-variables-Bare place text = ap (variables_step (place_of (Bare place text))) (out-roll-Sexp (Sexp-F.Bare place text))
+variables-Bare place text =
+    ap (variables_step (place_of (Bare place text))) (out-roll-Sexp (Sexp-F.Bare place text))
 
-pub variables-Barred : (place : ℕ) (text : List ℕ) → variables (Barred place text) ≡ refuse NotATerm (place_of (Barred place text))
+pub variables-Barred : (place : ℕ) (text : List ℕ)
+    → variables (Barred place text) ≡ refuse NotATerm (place_of (Barred place text))
 unfolding variables roll-Sexp roll
-variables-Barred place text = ap (variables_step (place_of (Barred place text))) (out-roll-Sexp (Sexp-F.Barred place text))
+variables-Barred place text =
+    ap (variables_step (place_of (Barred place text))) (out-roll-Sexp (Sexp-F.Barred place text))
 
-pub variables-List : (place : ℕ) (items : List Sexp) → variables (Listed place items) ≡ declared [] items
+pub variables-List : (place : ℕ) (items : List Sexp)
+    → variables (Listed place items) ≡ declared [] items
 unfolding variables roll-Sexp roll
-variables-List place items = ap (variables_step (place_of (Listed place items))) (out-roll-Sexp (Sexp-F.List place items))
+variables-List place items =
+    ap (variables_step (place_of (Listed place items))) (out-roll-Sexp (Sexp-F.List place items))
 
 pub ruleset variable_levels = (variables-Bare, variables-Barred, variables-List)
 
-first-pairs : {X A : Type 0} (f : X → A) (xs : List X) → map (λ (p : X × A). p.0) (map (λ x. (x, f x)) xs) ≡ xs
+first-pairs : {X A : Type 0} (f : X → A) (xs : List X)
+    → map (λ (p : X × A). p.0) (map (λ x. (x, f x)) xs) ≡ xs
 first-pairs f [] = refl
 first-pairs f (x ∷ xs) = ap (λ ys. x ∷ ys) (first-pairs f xs)
 
-second-pairs : {X A : Type 0} (f : X → A) (xs : List X) → map (λ (p : X × A). p.1) (map (λ x. (x, f x)) xs) ≡ map f xs
+second-pairs : {X A : Type 0} (f : X → A) (xs : List X)
+    → map (λ (p : X × A). p.1) (map (λ x. (x, f x)) xs) ≡ map f xs
 second-pairs f [] = refl
 second-pairs f (x ∷ xs) = ap (λ ys. f x ∷ ys) (second-pairs f xs)
 
-pub term-Bare : (scope : List (List ℕ)) (place : ℕ) (text : List ℕ) → term scope (Bare place text) ≡ bare_term scope place text
+pub term-Bare : (place : ℕ) (text : List ℕ) → term (Bare place text) ≡ bare_term place text
 unfolding term roll-Sexp roll
-term-Bare scope place text = para-roll-Sexp (Reading Term) (term_step scope) (Sexp-F.Bare place text)
+term-Bare place text = para-roll-Sexp (Reading Term) term_step (Sexp-F.Bare place text)
 
-pub term-Barred : (scope : List (List ℕ)) (place : ℕ) (text : List ℕ) → term scope (Barred place text) ≡ name_term scope place text
+pub term-Barred : (place : ℕ) (text : List ℕ) → term (Barred place text) ≡ name_term place text
 unfolding term roll-Sexp roll
-term-Barred scope place text = para-roll-Sexp (Reading Term) (term_step scope) (Sexp-F.Barred place text)
+term-Barred place text = para-roll-Sexp (Reading Term) term_step (Sexp-F.Barred place text)
 
-pub term-List : (scope : List (List ℕ)) (place : ℕ) (items : List Sexp) → term scope (Listed place items) ≡ list_term scope place items (map (term scope) items)
+pub term-List : (place : ℕ) (items : List Sexp)
+    → term (Listed place items) ≡ list_term place items (map term items)
 unfolding term roll-Sexp roll
-term-List scope place items =
-    para-roll-Sexp (Reading Term) (term_step scope) (Sexp-F.List place items)
-    ∙ ap₂ (list_term scope place) (first-pairs (term scope) items) (second-pairs (term scope) items)
+term-List place items =
+    para-roll-Sexp (Reading Term) term_step (Sexp-F.List place items)
+    ∙ ap₂ (list_term place) (first-pairs term items) (second-pairs term items)
 
 pub ruleset term_levels = (term-Bare, term-Barred, term-List)

@@ -6,4 +6,4 @@ pub mod Readings
 pub mod Scopes
 pub mod Slices
 pub mod TermLemmas
-mod Words
+mod TokenLemmas

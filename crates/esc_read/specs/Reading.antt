@@ -1,5 +1,9 @@
--- What reading gives, by the numbers that the names have: a value, or the first refusal.
-use Rattle.std.specs.Prelude.{◌≡◌, ℕ, Bool, if◌then◌else◌, List, [], ◌∷◌, ◌++◌, Some, slice_get, Result, Ok, Err}
+-- What reading gives, by the variables in scope and the numbers of the names: a value, or the first
+-- refusal.
+use Rattle.std.specs.Prelude.{◌≡◌, ℕ, Bool, if◌then◌else◌, List, [], ◌∷◌, ◌++◌, length, Option}
+use Rattle.std.specs.Prelude.{Some, slice_get, Result, Ok, Err, IfOk, OnOk}
+use Rattle.std.specs.List.{position}
+use Rattle.std.specs.Str.{bytes_eq}
 use Rattle.esc_term.specs.declared.term.Sym.{Sym}
 use Rattle.esc_read.specs.declared.fault.FormKind.{FormKind}
 use Rattle.esc_read.specs.declared.fault.FormKind.TheVariants.{WrongCount}
@@ -11,23 +15,36 @@ use Rattle.esc_read.specs.declared.fault.FormStop.TheVariants.{Fault, Memory}
 abbrev pub Numbering : Type 0
 Numbering = List ℕ → ℕ
 
+-- the spellings of variables, the innermost first
+abbrev pub Variables : Type 0
+Variables = List (List ℕ)
+
 abbrev pub Outcome : Type 0 → Type 0
 Outcome A = Result A FormFault
 
+-- what is read where these variables are in scope
 abbrev pub Reading : Type 0 → Type 0
-Reading A = Numbering → Outcome A
+Reading A = Variables → Numbering → Outcome A
 
 -- ---- readings
 
 unfoldable pub give : {A : Type 0} → A → Reading A
-give a number = Ok a
+give a scope number = Ok a
 
 unfoldable pub refuse : {A : Type 0} → FormKind → ℕ → Reading A
-refuse kind place number = Err (record { kind = kind; place = place })
+refuse kind place scope number = Err (record { kind = kind; place = place })
 
 -- the number of a name
 unfoldable pub number_of : List ℕ → Reading Sym
-number_of text number = Ok (record { 0 = number text })
+number_of text scope number = Ok (record { 0 = number text })
+
+-- how many variables stand inside the innermost of this name
+unfoldable pub depth_of : List ℕ → Reading (Option ℕ)
+depth_of text scope number = Ok (position (bytes_eq text) scope)
+
+-- with these variables inside those in scope
+unfoldable pub within : {A : Type 0} → Variables → Reading A → Reading A
+within own reading scope number = reading (own ++ scope) number
 
 abbrev pub and_then : {A B : Type 0} → Outcome A → (A → Outcome B) → Outcome B
 and_then (Ok a) next = next a
@@ -36,7 +53,7 @@ and_then (Err fault) next = Err fault
 -- one after another, up to the first refusal
 infixl 10 ◌>>=◌
 unfoldable pub ◌>>=◌ : {A B : Type 0} → Reading A → (A → Reading B) → Reading B
-◌>>=◌ first next number = and_then (first number) (λ a. next a number)
+◌>>=◌ first next scope number = and_then (first scope number) (λ a. next a scope number)
 
 infixr 11 ◌<$>◌
 abbrev pub ◌<$>◌ : {A B : Type 0} → (A → B) → Reading A → Reading B
@@ -71,11 +88,40 @@ Tells outcome (Ok a) = outcome ≡ Ok a
 Tells outcome (Err (Fault fault)) = outcome ≡ Err fault
 Tells outcome (Err Memory) = Unit {0}
 
--- the names were numbered by a table that grew, and by the numbers of that table the reading gives this
-pub record Reads {A : Type 0} (before after : List (List ℕ)) (result : Result A FormStop) (reading : Reading A) : Type 0 where
+-- the names were numbered by a table that grew, and by the numbers of that table the outcome is
+-- this
+pub record ReadsBy {A : Type 0} (before after : List (List ℕ)) (result : Result A FormStop)
+    (outcome : Numbering → Outcome A) : Type 0 where
   pub grown : Extends before after
-  pub told : (number : Numbering) → Numbers after number → Tells (reading number) result
+  pub told : (number : Numbering) → Numbers after number → Tells (outcome number) result
 
--- a reading that looks at no name
+-- ---- what a call of a reader says
+
+-- the names that have numbers, and the variables in scope
+pub record Context : Type 0 where
+  pub names : List (List ℕ)
+  pub scope : Variables
+
+-- the reading of the variables in scope, which are the same again behind a value
+pub record ReadsIn {A : Type 0} (before after : Context) (result : Result A FormStop)
+    (reading : Reading A) : Type 0 where
+  pub reads : ReadsBy before.names after.names result (reading before.scope)
+  pub kept : OnOk result (after.scope ≡ before.scope)
+
+-- a reading that looks at no name and no variable
 pub record Plain {A : Type 0} (result : Result A FormStop) (reading : Reading A) : Type 0 where
-  pub told : (number : Numbering) → Tells (reading number) result
+  pub told : (scope : Variables) (number : Numbering) → Tells (reading scope number) result
+
+-- the result with these variables in place of their count
+abbrev pub counting : Variables → Result ℕ FormStop → Result Variables FormStop
+counting own (Ok count) = Ok own
+counting own (Err stop) = Err stop
+
+-- the variables that are read are in scope, inside those before; the result counts them
+pub record Declares (before after : Context) (result : Result ℕ FormStop)
+    (reading : Reading Variables) : Type 0 where
+  pub own : Variables
+  pub count : IfOk result (λ n. n ≡ length own)
+  pub same : after.names ≡ before.names
+  pub inside : OnOk result (after.scope ≡ own ++ before.scope)
+  pub told : Plain (counting own result) reading

@@ -1,5 +1,8 @@
 //! Why an expression is no command.
 
+ghost use Rattle.std.specs.Prelude.{◌≡◌};
+
+use std::alloc::AllocError;
 use thiserror::Error;
 
 /// What is wrong with an expression.
@@ -37,4 +40,18 @@ pub enum FormStop {
     Fault(FormFault),
     #[error("out of memory")]
     Memory,
+}
+
+/// The refusal of this kind at this place.
+pub fn refusal(kind: FormKind, place: u64) -> FormStop
+    ensures { result ≡ FormStop.Fault (record { kind = kind; place = place }) }
+{
+    FormStop::Fault(FormFault { kind, place })
+}
+
+/// Want of memory.
+pub(crate) fn exhausted(_: AllocError) -> FormStop
+    ensures { result ≡ FormStop.Memory }
+{
+    FormStop::Memory
 }

@@ -1,7 +1,8 @@
-//! What holds of terms that are read. The function states it, and does nothing.
+//! What holds of tokens and terms that are read. The function states it, and does nothing.
 
-ghost use Rattle.esc_read.specs.Laws.{VariablesAreInScope};
+ghost use Rattle.esc_read.specs.Laws.{BareNamesAreNames, VariablesAreInScope};
 
 pub fn term_laws()
-    ensures { VariablesAreInScope }
+    ensures names { BareNamesAreNames }
+    ensures in_scope { VariablesAreInScope }
 {}

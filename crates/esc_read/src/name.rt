@@ -1,31 +1,16 @@
 //! Names, variables and labels.
 
-ghost use Rattle.std.specs.Prelude.{◌≡◌, [], true};
-ghost use Rattle.esc_read.specs.Reading.{Plain, Reads, number_of};
-ghost use Rattle.esc_read.specs.Names.{declared, differs, is_kept, label, permit, symbol, variable, variables};
+ghost use Rattle.std.specs.Prelude.{◌≡◌, ◌∷◌, [], take, OnOk};
+ghost use Rattle.esc_read.specs.Reading.{Declares, Plain, ReadsIn};
+ghost use Rattle.esc_read.specs.Names.{declared, differs, is_kept, label, permit, symbol, variable};
+ghost use Rattle.esc_read.specs.Names.{variables};
+ghost use Rattle.esc_read.specs.Tokens.{text_of};
 
-use crate::fault::{FormFault, FormKind, FormStop};
-use crate::scope::Scope;
+use crate::fault::{FormKind, FormStop, refusal};
+use crate::reader::TermReader;
 use crate::token::{Token, place_of, text_of};
-use crate::tools::Tools;
-use esc_names::Names;
 use esc_sexp::Sexp;
 use esc_term::Sym;
-use std::alloc::AllocError;
-
-/// The refusal of this kind at this place.
-pub fn refusal(kind: FormKind, place: u64) -> FormStop
-    ensures { result ≡ FormStop.Fault (record { kind = kind; place = place }) }
-{
-    FormStop::Fault(FormFault { kind, place })
-}
-
-/// Want of memory.
-pub fn exhausted(_: AllocError) -> FormStop
-    ensures { result ≡ FormStop.Memory }
-{
-    FormStop::Memory
-}
 
 fn is_kept(text: &[u8]) -> bool
     ensures { result ≡ is_kept text.now }
@@ -44,86 +29,84 @@ pub(crate) fn permit(place: u64, text: &[u8]) -> Result<(), FormStop>
     Ok(())
 }
 
-/// The number of a name.
-#[tactic(auto, using(crate::proofs::Readings::readings))]
-pub(crate) fn number_of(names: &mut Names, text: &[u8]) -> Result<Sym, FormStop>
-    ensures { Reads names.old names.new result (number_of text.now) }
-{
-    match names.number(text) {
-        Ok(symbol) => Ok(symbol),
-        Err(_) => Err(FormStop::Memory),
+impl<'e> TermReader<'e> {
+    /// The number of a token at this place that is taken as a name.
+    pub fn read_symbol(&mut self, place: u64, text: &[u8]) -> Result<Sym, FormStop>
+        ensures { ReadsIn self.old self.new result (symbol place text.now) }
+    {
+        permit(place, text)?;
+        self.number_of(text)
     }
-}
 
-/// The number of a token at this place that is taken as a name.
-#[tactic(auto, unfolding(crate::specs::Names::symbol), using(crate::proofs::Readings::readings))]
-pub fn read_symbol(names: &mut Names, place: u64, text: &[u8]) -> Result<Sym, FormStop>
-    ensures { Reads names.old names.new result (symbol place text.now) }
-{
-    permit(place, text)?;
-    number_of(names, text)
-}
-
-/// A label: any token.
-#[tactic(auto, unfolding(crate::specs::Names::label), using(crate::proofs::Readings::readings))]
-pub fn read_label(tools: &Tools, names: &mut Names, sexp: &Sexp) -> Result<Sym, FormStop>
-    ensures { Reads names.old names.new result (label sexp.now) }
-{
-    match tools.token_of(sexp) {
-        Token::List => Err(refusal(FormKind::NotATerm, place_of(sexp))),
-        Token::Numeral | Token::Word(_) | Token::Name => {
-            read_symbol(names, place_of(sexp), text_of(sexp))
+    /// A label: any token.
+    #[tactic(auto, unfolding(crate::specs::Names::label), using(crate::proofs::Readings::readings))]
+    pub fn read_label(&mut self, sexp: &Sexp) -> Result<Sym, FormStop>
+        ensures { ReadsIn self.old self.new result (label sexp.now) }
+    {
+        match self.token_of(sexp) {
+            Token::List => Err(refusal(FormKind::NotATerm, place_of(sexp))),
+            Token::Numeral | Token::Word(_) | Token::Name => {
+                self.read_symbol(place_of(sexp), text_of(sexp))
+            }
         }
     }
-}
 
-/// Whether the expression may be one more variable of a list.
-#[tactic(auto, unfolding(crate::specs::Names::variable), using(crate::proofs::Readings::plain_readings))]
-fn check_variable(tools: &Tools, own: &Scope, sexp: &Sexp) -> Result<(), FormStop>
-    ensures { Plain result (variable own.now sexp.now) }
-{
-    match tools.token_of(sexp) {
-        Token::Name => {
-            permit(place_of(sexp), text_of(sexp))?;
-            check_new(own, place_of(sexp), text_of(sexp))
-        }
-        Token::Numeral | Token::Word(_) | Token::List => {
-            Err(refusal(FormKind::NotATerm, place_of(sexp)))
+    /// The variables that a quantifier binds, which are in scope then. The result counts them.
+    pub fn read_variables(&mut self, sexp: &'e Sexp) -> Result<usize, FormStop>
+        ensures { Declares self.old self.new result (variables sexp.now) }
+    {
+        match sexp {
+            Sexp::List(_, items) => self.read_declared(items.as_slice()),
+            Sexp::Bare(_, _) => Err(refusal(FormKind::NotATerm, place_of(sexp))),
+            Sexp::Barred(_, _) => Err(refusal(FormKind::NotATerm, place_of(sexp))),
         }
     }
-}
 
-#[tactic(auto, using(crate::proofs::Readings::plain_readings))]
-fn check_new(own: &Scope, place: u64, text: &[u8]) -> Result<(), FormStop>
-    ensures { Plain result (differs own.now place text.now) }
-{
-    if own.contains(text) {
-        return Err(refusal(FormKind::DuplicateVariable, place));
-    }
-    Ok(())
-}
-
-/// The variables of a list.
-pub fn read_declared(tools: &Tools, items: &[Sexp]) -> Result<Scope, FormStop>
-    ensures { Plain result (declared [] items.now) }
-{
-    let mut own = Scope::new(tools.alloc);
-    'items: for item in items {
-        check_variable(tools, &own, item)?;
-        own.push(tools.alloc, text_of(item)).map_err(exhausted)?;
-    }
-    Ok(own)
-}
-
-/// The variables that a quantifier binds.
-#[tactic(auto, using(crate::proofs::Levels::variable_levels, crate::proofs::Readings::plain_readings))]
-pub fn read_variables(tools: &Tools, sexp: &Sexp) -> Result<Scope, FormStop>
-    ensures { Plain result (variables sexp.now) }
-{
-    match sexp {
-        Sexp::List(_, items) => read_declared(tools, items.as_slice()),
-        Sexp::Bare(_, _) | Sexp::Barred(_, _) => {
-            Err(refusal(FormKind::NotATerm, place_of(sexp)))
+    /// The variables of a list, which are in scope then. The result counts them.
+    pub fn read_declared(&mut self, items: &'e [Sexp]) -> Result<usize, FormStop>
+        ensures { Declares self.old self.new result (declared [] items.now) }
+    {
+        'items: for (place, item) in items.iter().enumerate() {
+            self.read_variable(place, item)?;
         }
+        Ok(items.len())
+    }
+
+    /// One more variable of a list, behind so many of it.
+    fn read_variable(&mut self, count: usize, sexp: &'e Sexp) -> Result<(), FormStop>
+        ensures read { Plain result (variable (take count self.old.scope) sexp.now) }
+        ensures names { self.new.names ≡ self.old.names }
+        ensures scope { OnOk result (self.new.scope ≡ text_of sexp.now ∷ self.old.scope) }
+    {
+        self.check_variable(count, sexp)?;
+        match self.enter(text_of(sexp)) {
+            Ok(()) => Ok(()),
+            Err(_) => Err(FormStop::Memory),
+        }
+    }
+
+    #[tactic(auto, unfolding(crate::specs::Names::variable), using(crate::proofs::Readings::plain_readings))]
+    fn check_variable(&self, count: usize, sexp: &Sexp) -> Result<(), FormStop>
+        ensures { Plain result (variable (take count self.now.scope) sexp.now) }
+    {
+        match self.token_of(sexp) {
+            Token::Name => {
+                permit(place_of(sexp), text_of(sexp))?;
+                self.check_new(count, place_of(sexp), text_of(sexp))
+            }
+            Token::Numeral | Token::Word(_) | Token::List => {
+                Err(refusal(FormKind::NotATerm, place_of(sexp)))
+            }
+        }
+    }
+
+    #[tactic(auto, using(crate::proofs::Readings::plain_readings))]
+    fn check_new(&self, count: usize, place: u64, text: &[u8]) -> Result<(), FormStop>
+        ensures { Plain result (differs (take count self.now.scope) place text.now) }
+    {
+        if self.is_among(text, count) {
+            return Err(refusal(FormKind::DuplicateVariable, place));
+        }
+        Ok(())
     }
 }

@@ -1,20 +1,15 @@
 //! Numerals.
 
-ghost use Rattle.std.specs.Prelude.{◌≡◌, ◌^◌, ◌-◌, IsTrue, ◌↔◌, min};
-ghost use Rattle.esc_read.specs.Tokens.{are_digits, decimal_value, digits_of, is_digit, is_negative, is_numeral};
+ghost use Rattle.std.specs.Prelude.{◌≡◌, ◌^◌, ◌-◌, min};
+ghost use Rattle.esc_read.specs.Tokens.{decimal_value, is_negative};
 ghost use Rattle.esc_read.specs.Terms.{numeral_term};
 ghost use Rattle.esc_read.specs.Reading.{Plain};
 
 use crate::fault::{FormFault, FormKind, FormStop};
+use esc_names::digits_of;
 use esc_term::Term;
 
 const LARGEST: u64 = 0x7fff_ffff_ffff_ffff;
-
-fn is_digit(byte: u8) -> bool
-    ensures { result ≡ is_digit byte }
-{
-    b'0' <= byte && byte <= b'9'
-}
 
 fn is_negative(text: &[u8]) -> bool
     ensures { result ≡ is_negative text.now }
@@ -23,35 +18,6 @@ fn is_negative(text: &[u8]) -> bool
         [first, ..] => *first == b'-',
         [] => false,
     }
-}
-
-/// The text without a sign before it.
-fn digits_of(text: &[u8]) -> &[u8]
-    ensures { result.now ≡ digits_of text.now }
-{
-    match text {
-        [first, ..] if *first == b'-' => &text[1..],
-        _ => text,
-    }
-}
-
-fn are_digits(text: &[u8]) -> bool
-    ensures { result ≡ are_digits text.now }
-{
-    'bytes: for byte in text {
-        if !is_digit(*byte) {
-            return false;
-        }
-    }
-    text.len() != 0
-}
-
-/// Whether the text is a numeral: an optional sign and one digit or more.
-#[tactic(auto, unfolding(crate::specs::Tokens::is_numeral))]
-pub(crate) fn is_numeral(text: &[u8]) -> bool
-    ensures { result ≡ is_numeral text.now }
-{
-    are_digits(digits_of(text))
 }
 
 /// The number that the digits write, which stands still at 2^64 - 1.

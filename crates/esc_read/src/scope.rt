@@ -1,89 +1,82 @@
 //! The variables in scope.
 
-ghost use Rattle.std.specs.Prelude.{◌≡◌, [], ◌∷◌, ◌++◌, length, reverse, IfOk, OnOk};
+ghost use Rattle.std.specs.Prelude.{◌≡◌, ◌≤◌, ◌-◌, [], ◌∷◌, take, drop, length, OnOk, OnErr};
 ghost use Rattle.std.specs.List.{list_any, position};
 ghost use Rattle.std.specs.Str.{bytes_eq};
 
-use sqlite_items::Items;
 use std::alloc::{AllocError, Global};
 use std::marker::Model;
 
-/// The spellings of variables. Clauses see the innermost first.
+/// The spellings of variables, as they stand in the expression. Clauses see the innermost first.
 #[derive(Drop)]
-pub struct Scope {
+pub(crate) struct Scope<'e> {
     /// The outermost first.
-    variables: Items<Items<u8>>,
+    variables: Vec<&'e [u8]>,
 }
 
-impl Model for Scope {
-    ghost use Rattle.std.specs.Prelude.{ℕ, List, reverse};
+impl<'e> Model for Scope<'e> {
+    ghost use Rattle.std.specs.Prelude.{ℕ, List, map, reverse};
 
     ghost Value = { List (List ℕ) };
 
-    ghost view = { λ scope. reverse scope.variables };
+    ghost view = { λ scope. reverse (map (λ name. name.now) scope.variables.items) };
 }
 
-impl Scope {
-    pub fn new(alloc: Global) -> Scope
+impl<'e> Scope<'e> {
+    pub(crate) fn new(alloc: Global) -> Scope<'e>
         ensures { result ≡ [] }
     {
         Scope {
-            variables: Items::new(alloc),
+            variables: Vec::new(alloc),
         }
     }
 
     /// How many variables there are.
-    pub fn len(&self) -> usize
+    pub(crate) fn len(&self) -> usize
         ensures { result ≡ length self.now }
     {
         self.variables.len()
     }
 
     /// Adds an innermost variable.
-    pub fn push(&mut self, alloc: Global, name: &[u8]) -> Result<(), AllocError>
-        ensures { OnOk result (self.new ≡ name.now ∷ self.old) }
+    pub(crate) fn push(&mut self, name: &'e [u8]) -> Result<(), AllocError>
+        ensures ok { OnOk result (self.new ≡ name.now ∷ self.old) }
+        ensures err { OnErr result (self.new ≡ self.old) }
     {
-        self.variables.push(Items::from_slice(alloc, name)?)
+        self.variables.push(name)?;
+        Ok(())
+    }
+
+    /// Leaves so many innermost variables.
+    pub(crate) fn leave(&mut self, count: usize)
+        requires { count ≤ length self.old }
+        ensures { self.new ≡ drop count self.old }
+    {
+        let outer = self.variables.len() - count;
+        self.variables.truncate(outer);
     }
 
     /// How many variables stand inside the innermost of this name.
-    pub fn find(&self, name: &[u8]) -> Option<u64>
+    pub(crate) fn find(&self, name: &[u8]) -> Option<u64>
         ensures { result ≡ position (bytes_eq name.now) self.now }
     {
-        let variables = self.variables.as_slice();
-        let count = variables.len();
+        let count = self.variables.len();
         'inside: for inside in 0..count {
-            let variable = &variables[count - 1 - inside];
-            if name == variable.as_slice() {
+            let variable: &[u8] = self.variables[count - 1 - inside];
+            if name == variable {
                 return Some(inside as u64);
             }
         }
         None
     }
 
-    /// Whether a variable has this name.
-    pub fn contains(&self, name: &[u8]) -> bool
-        ensures { result ≡ list_any (bytes_eq name.now) self.now }
+    /// Whether one of so many innermost variables has this name.
+    pub(crate) fn is_among(&self, name: &[u8], count: usize) -> bool
+        ensures { result ≡ list_any (bytes_eq name.now) (take count self.now) }
     {
-        self.find(name).is_some()
-    }
-
-    /// These variables inside those of another scope.
-    pub fn within(&self, alloc: Global, outer: &Scope) -> Result<Scope, AllocError>
-        ensures { IfOk result (λ both. both ≡ self.now ++ outer.now) }
-    {
-        let mut both = Scope::new(alloc);
-        both.push_all(alloc, outer.variables.as_slice())?;
-        both.push_all(alloc, self.variables.as_slice())?;
-        Ok(both)
-    }
-
-    fn push_all(&mut self, alloc: Global, variables: &[Items<u8>]) -> Result<(), AllocError>
-        ensures { OnOk result (self.new ≡ reverse variables.now ++ self.old) }
-    {
-        'variables: for variable in variables {
-            self.push(alloc, variable.as_slice())?;
+        match self.find(name) {
+            Some(inside) => inside < count as u64,
+            None => false,
         }
-        Ok(())
     }
 }

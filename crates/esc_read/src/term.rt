@@ -1,17 +1,16 @@
 //! Terms.
 
 ghost use Rattle.std.specs.Prelude.{◌≡◌, map};
-ghost use Rattle.esc_read.specs.Reading.{Plain, Reads, each};
-ghost use Rattle.esc_read.specs.Terms.{application, bare_term, calculation, name_term, operation, takes, term, term_head};
+ghost use Rattle.esc_read.specs.Reading.{ReadsIn, each};
+ghost use Rattle.esc_read.specs.Terms.{application, bare_term, calculation, name_term, operation};
+ghost use Rattle.esc_read.specs.Terms.{takes, term, term_head};
 
-use crate::fault::{FormKind, FormStop};
-use crate::key::{Key, Operator};
-use crate::name::{exhausted, number_of, permit, read_symbol, refusal};
+use crate::fault::{FormKind, FormStop, exhausted, refusal};
+use crate::name::permit;
 use crate::numeral::read_numeral;
-use crate::scope::Scope;
+use crate::reader::TermReader;
 use crate::token::{Token, place_of, text_of};
-use crate::tools::Tools;
-use esc_names::Names;
+use esc_names::{Key, Operator};
 use esc_sexp::Sexp;
 use esc_term::{Head, Term, Terms};
 use sqlite_items::Items;
@@ -54,130 +53,102 @@ fn head_of(operator: Operator) -> Head
     }
 }
 
-/// A name alone: a variable in scope, or a constant.
-#[tactic(auto, unfolding(crate::specs::Terms::name_term), using(crate::proofs::Readings::readings))]
-pub fn read_name_term(
-    tools: &Tools,
-    names: &mut Names,
-    scope: &Scope,
-    place: u64,
-    text: &[u8],
-) -> Result<Term, FormStop>
-    ensures { Reads names.old names.new result (name_term scope.now place text.now) }
-{
-    permit(place, text)?;
-    match scope.find(text) {
-        Some(inside) => Ok(Term::Var(inside)),
-        None => {
-            let symbol = number_of(names, text)?;
-            Ok(Term::App(Head::Name(symbol), Items::new(tools.alloc)))
-        }
-    }
-}
-
-#[tactic(auto, unfolding(crate::specs::Terms::bare_term), using(crate::proofs::Readings::readings))]
-fn read_bare_term(
-    tools: &Tools,
-    names: &mut Names,
-    scope: &Scope,
-    place: u64,
-    text: &[u8],
-) -> Result<Term, FormStop>
-    ensures { Reads names.old names.new result (bare_term scope.now place text.now) }
-{
-    match tools.bare_token(text) {
-        Token::Numeral => read_numeral(place, text),
-        Token::Name => read_name_term(tools, names, scope, place, text),
-        Token::Word(_) => Err(refusal(FormKind::NotATerm, place)),
-        Token::List => Err(refusal(FormKind::NotATerm, place)),
-    }
-}
-
-/// The term that an expression is.
-#[cycle(read_term)]
-#[tactic(auto, using(crate::proofs::Levels::term_levels, crate::proofs::Readings::readings))]
-pub fn read_term(
-    tools: &Tools,
-    names: &mut Names,
-    scope: &Scope,
-    sexp: &Sexp,
-) -> Result<Term, FormStop>
-    ensures { Reads names.old names.new result (term scope.now sexp.now) }
-{
-    match sexp {
-        Sexp::Bare(place, text) => read_bare_term(tools, names, scope, *place, text.as_slice()),
-        Sexp::Barred(place, text) => read_name_term(tools, names, scope, *place, text.as_slice()),
-        Sexp::List(place, items) => {
-            let [head, args @ ..] = items.as_slice() else {
-                return Err(refusal(FormKind::EmptyList, *place));
-            };
-            match term_head(tools.token_of(head)) {
-                TermHead::Name => {
-                    read_application(tools, names, scope, place_of(head), text_of(head), args)
-                }
-                TermHead::Operator(operator) => {
-                    read_calculation(tools, names, scope, operator, *place, args)
-                }
-                TermHead::Other => Err(refusal(FormKind::NotATerm, place_of(head))),
+impl<'e> TermReader<'e> {
+    /// A name alone: a variable in scope, or a constant.
+    pub fn read_name_term(&mut self, place: u64, text: &[u8]) -> Result<Term, FormStop>
+        ensures { ReadsIn self.old self.new result (name_term place text.now) }
+    {
+        permit(place, text)?;
+        match self.depth_of(text) {
+            Some(inside) => Ok(Term::Var(inside)),
+            None => {
+                let symbol = self.number_of(text)?;
+                Ok(Term::App(Head::Name(symbol), Items::new(self.alloc())))
             }
         }
     }
-}
 
-/// A name as the head of a list.
-#[cycle(read_term)]
-#[tactic(auto, using(crate::proofs::Readings::readings))]
-pub fn read_application(
-    tools: &Tools,
-    names: &mut Names,
-    scope: &Scope,
-    place: u64,
-    text: &[u8],
-    args: &[Sexp],
-) -> Result<Term, FormStop>
-    ensures { Reads names.old names.new result (application scope.now place text.now (map (term scope.now) args.now)) }
-{
-    if args.len() == 0 {
-        return read_name_term(tools, names, scope, place, text);
+    fn read_bare_term(&mut self, place: u64, text: &[u8]) -> Result<Term, FormStop>
+        ensures { ReadsIn self.old self.new result (bare_term place text.now) }
+    {
+        match self.bare_token(text) {
+            Token::Numeral => read_numeral(place, text),
+            Token::Name => self.read_name_term(place, text),
+            Token::Word(_) => Err(refusal(FormKind::NotATerm, place)),
+            Token::List => Err(refusal(FormKind::NotATerm, place)),
+        }
     }
-    let symbol = read_symbol(names, place, text)?;
-    let args = read_terms(tools, names, scope, args)?;
-    Ok(Term::App(Head::Name(symbol), args))
-}
 
-#[cycle(read_term)]
-#[tactic(auto, using(crate::proofs::Readings::readings))]
-fn read_calculation(
-    tools: &Tools,
-    names: &mut Names,
-    scope: &Scope,
-    operator: Operator,
-    place: u64,
-    args: &[Sexp],
-) -> Result<Term, FormStop>
-    ensures { Reads names.old names.new result (calculation operator place (map (term scope.now) args.now)) }
-{
-    if !takes(operator, args.len()) {
-        return Err(refusal(FormKind::WrongCount, place));
+    /// The term that an expression is.
+    #[cycle(read_term)]
+    #[tactic(auto, using(crate::proofs::Levels::term_levels))]
+    pub fn read_term(&mut self, sexp: &Sexp) -> Result<Term, FormStop>
+        ensures { ReadsIn self.old self.new result (term sexp.now) }
+    {
+        match sexp {
+            Sexp::Bare(place, text) => self.read_bare_term(*place, text.as_slice()),
+            Sexp::Barred(place, text) => self.read_name_term(*place, text.as_slice()),
+            Sexp::List(place, items) => {
+                let [head, args @ ..] = items.as_slice() else {
+                    return Err(refusal(FormKind::EmptyList, *place));
+                };
+                match term_head(self.token_of(head)) {
+                    TermHead::Name => self.read_application(place_of(head), text_of(head), args),
+                    TermHead::Operator(operator) => {
+                        self.read_calculation(operator, *place, args)
+                    }
+                    TermHead::Other => Err(refusal(FormKind::NotATerm, place_of(head))),
+                }
+            }
+        }
     }
-    let args = read_terms(tools, names, scope, args)?;
-    Ok(Term::App(head_of(operator), args))
-}
 
-/// Terms, from the front.
-#[cycle(read_term)]
-pub fn read_terms(
-    tools: &Tools,
-    names: &mut Names,
-    scope: &Scope,
-    parts: &[Sexp],
-) -> Result<Terms, FormStop>
-    ensures { Reads names.old names.new result (each (map (term scope.now) parts.now)) }
-{
-    let mut terms = Items::new(tools.alloc);
-    'parts: for part in parts {
-        let term = read_term(tools, names, scope, part)?;
-        terms.push(term).map_err(exhausted)?;
+    /// A name as the head of a list.
+    #[cycle(read_term)]
+    pub fn read_application(
+        &mut self,
+        place: u64,
+        text: &[u8],
+        args: &[Sexp],
+    ) -> Result<Term, FormStop>
+        ensures { ReadsIn self.old self.new result
+            (application place text.now (map term args.now)) }
+    {
+        if args.len() == 0 {
+            return self.read_name_term(place, text);
+        }
+        let symbol = self.read_symbol(place, text)?;
+        let args = self.read_terms(args)?;
+        Ok(Term::App(Head::Name(symbol), args))
     }
-    Ok(terms)
+
+    #[cycle(read_term)]
+    fn read_calculation(
+        &mut self,
+        operator: Operator,
+        place: u64,
+        args: &[Sexp],
+    ) -> Result<Term, FormStop>
+        ensures { ReadsIn self.old self.new result
+            (calculation operator place (map term args.now)) }
+    {
+        if !takes(operator, args.len()) {
+            return Err(refusal(FormKind::WrongCount, place));
+        }
+        let args = self.read_terms(args)?;
+        Ok(Term::App(head_of(operator), args))
+    }
+
+    /// Terms, from the front.
+    #[cycle(read_term)]
+    pub fn read_terms(&mut self, parts: &[Sexp]) -> Result<Terms, FormStop>
+        ensures { ReadsIn self.old self.new result (each (map term parts.now)) }
+    {
+        let mut terms = Items::new(self.alloc());
+        'parts: for part in parts {
+            let term = self.read_term(part)?;
+            terms.push(term).map_err(exhausted)?;
+        }
+        Ok(terms)
+    }
 }

@@ -3,7 +3,7 @@
 ghost use Rattle.std.specs.Prelude.{◌≡◌, drop};
 ghost use Rattle.esc_read.specs.Tokens.{args_of, place_of, text_of};
 
-use crate::key::Key;
+use esc_names::Key;
 use esc_sexp::Sexp;
 
 /// What an expression is.

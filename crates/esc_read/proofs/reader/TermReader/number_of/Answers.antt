@@ -1,0 +1,12 @@
+use Rattle.std.proofs.Common.{subst}
+use Rattle.esc_read.specs.Reading.{ReadsIn, number_of}
+use Rattle.esc_read.proofs.Readings.{ReadsIn-names}
+use Rattle.esc_read.proofs.reader.TermReader.number_of.Goals as goal
+
+pub returns : goal.returns
+returns c =
+    subst
+    (λ t. ReadsIn t
+    (record { names = c.number_of.new.names; scope = c.self.inside.scope })
+    c.number_of.result (number_of c.args.text.now))
+    c.self.view_is (ReadsIn-names c.self.inside.scope (c.number_of.ensures c.self.inside.scope))

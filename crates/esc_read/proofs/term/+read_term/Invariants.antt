@@ -1,7 +1,0 @@
-use Rattle.std.proofs.Common.{map, drop}
-use Rattle.esc_read.specs.Terms.{term}
-use Rattle.esc_read.proofs.Readings.{Going}
-use Rattle.esc_read.proofs.term.+read_term.Given as goal
-
-abbrev pub invariant-read_terms-parts : goal.invariant-read_terms-parts
-invariant-read_terms-parts l = Going l.fn.names l.names l.terms (map (term l.scope) (drop l.part-index l.parts)) (map (term l.scope) l.parts)
