@@ -1,7 +1,7 @@
 -- What the head of a list says where a formula, a pattern or a note is wanted.
 use Rattle.std.specs.Prelude.{Bool, true, false, Option, Some, None}
-use Rattle.esc_read.specs.declared.key.Key.TheVariants as key
-use Rattle.esc_read.specs.declared.key.Note.{Note}
+use Rattle.esc_names.specs.declared.key.Key.TheVariants as key
+use Rattle.esc_names.specs.declared.key.Note.{Note}
 use Rattle.esc_read.specs.declared.token.Token.{Token}
 use Rattle.esc_read.specs.declared.token.Token.TheVariants as token
 use Rattle.esc_form.specs.declared.form.Form.{Form}

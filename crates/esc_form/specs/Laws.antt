@@ -20,12 +20,15 @@ IsClosedKind (kind.Define name count place None) = Unit {0}
 IsClosedKind kind.Prompt = Unit {0}
 
 abbrev pub CommandsAreClosed : Type 0
-CommandsAreClosed = (e : Sexp) (number : Numbering) (c : Command) → command e number ≡ Ok c → IsClosedKind c.kind
+CommandsAreClosed = (e : Sexp) (number : Numbering) (c : Command) → command e number ≡ Ok c
+    → IsClosedKind c.kind
 
 -- a table in which each name stands once has a numbering
 abbrev pub TablesAreNumbered : Type 0
-TablesAreNumbered = (names : List (List ℕ)) → HasDistinctRows names → (number : Numbering) × Numbers names number
+TablesAreNumbered = (names : List (List ℕ)) → HasDistinctRows names
+    → (number : Numbering) × Numbers names number
 
 -- what is read by the numbers of a table is so by those of the table when it has grown
 abbrev pub ReadingsStay : Type 0
-ReadingsStay = (before after : List (List ℕ)) (number : Numbering) → Extends before after → Numbers after number → Numbers before number
+ReadingsStay = (before after : List (List ℕ)) (number : Numbering) → Extends before after
+    → Numbers after number → Numbers before number

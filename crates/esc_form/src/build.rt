@@ -5,7 +5,8 @@ ghost use Rattle.esc_read.specs.Reading.{Plain, give};
 ghost use Rattle.esc_form.specs.Formulas.{bound, holds, joined, labelled, related};
 
 use crate::notes::Notes;
-use esc_read::{Binder, FormStop, Join, Labelling, Relation, Scope};
+use esc_names::{Binder, Join, Labelling, Relation};
+use esc_read::FormStop;
 use esc_term::{Formula, Head, Quant, Sym, Term};
 use sqlite_items::{Boxed, Items};
 use std::alloc::{AllocError, Global};
@@ -97,17 +98,16 @@ pub(crate) fn labelled(
     }
 }
 
-/// The quantifier of these variables, which is its body where there is none.
+/// The quantifier of so many variables, which is its body where there is none.
 pub(crate) fn bound(
     alloc: Global,
     binder: Binder,
-    own: &Scope,
+    count: usize,
     notes: Notes,
     body: Formula,
 ) -> Result<Formula, AllocError>
-    ensures { IfOk result (λ f. f ≡ bound binder own.now notes body) }
+    ensures { IfOk result (λ f. f ≡ bound binder count notes body) }
 {
-    let count = own.len();
     if count == 0 {
         return Ok(body);
     }

@@ -17,7 +17,8 @@ pub enum Kind {
     Push(Formulas),
     /// The end of the newest assumptions.
     Pop,
-    /// A predicate with its number of arguments and the place of its name, and what it means where that is said.
+    /// A predicate with its number of arguments and the place of its name, and what it means
+    /// where that is said.
     Define {
         name: Sym,
         count: u64,

@@ -3,7 +3,8 @@
 ghost use Rattle.std.specs.Prelude.{◌≡◌};
 ghost use Rattle.esc_form.specs.Forms.{bare_form, form_of, is_multi, note_of};
 
-use esc_read::{Binder, Join, Key, Labelling, Note, Relation, Token};
+use esc_names::{Binder, Join, Key, Labelling, Note, Relation};
+use esc_read::Token;
 
 /// What the head of a list says where a formula is wanted.
 #[derive(Clone, Copy)]

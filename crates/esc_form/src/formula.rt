@@ -1,305 +1,245 @@
 //! Formulas.
 
-ghost use Rattle.std.specs.Prelude.{◌≡◌, ◌<◌, ◌≤◌, ◌-◌, [], map, take, drop, length};
-ghost use Rattle.esc_read.specs.Reading.{Reads, each};
+ghost use Rattle.std.specs.Prelude.{◌≡◌, ◌≤◌, length, map};
+ghost use Rattle.esc_read.specs.Reading.{ReadsIn, each};
 ghost use Rattle.esc_read.specs.Terms.{application, name_term, term};
 ghost use Rattle.esc_read.specs.Tokens.{bare_token};
 ghost use Rattle.esc_form.specs.Forms.{bare_form};
 ghost use Rattle.esc_form.specs.Patterns.{all_notes, made};
-ghost use Rattle.esc_form.specs.Formulas.{bare_formula_by, distinction, formula, holds, junction, labelling_of, middle, negation, note_part, part_of, quantifier, relation_of};
+ghost use Rattle.esc_form.specs.Formulas.{bare_formula_by, distinction, formula, holds, junction};
+ghost use Rattle.esc_form.specs.Formulas.{labelling_of, middle, negation, note_of_part, part_of};
+ghost use Rattle.esc_form.specs.Formulas.{quantifier, relation_of};
 
 use crate::build::{bound, built, exhausted, holds, joined, labelled, not, related};
 use crate::form::{BareForm, Form, bare_form, form_of, note_of};
-use crate::notes::{Notes, read_exempt_note, read_pattern_note};
-use esc_names::Names;
-use esc_read::{
-    Binder, FormKind, FormStop, Join, Labelling, Note, Relation, Scope, Tools, args_of, place_of,
-    read_application, read_label, read_name_term, read_term, read_terms, read_variables, refusal,
-    text_of,
-};
+use crate::notes::Notes;
+use crate::reader::FormReader;
+use esc_names::{Binder, Join, Labelling, Note, Relation};
+use esc_read::{FormKind, FormStop, args_of, place_of, refusal, text_of};
 use esc_sexp::Sexp;
 use esc_term::{Formula, Formulas};
 use sqlite_items::Items;
 
-/// A predicate without arguments, or a variable, as a formula.
-fn read_name(
-    tools: &Tools,
-    names: &mut Names,
-    scope: &Scope,
-    place: u64,
-    text: &[u8],
-) -> Result<Formula, FormStop>
-    ensures { Reads names.old names.new result (made holds (name_term scope.now place text.now)) }
-{
-    let term = read_name_term(tools, names, scope, place, text)?;
-    Ok(holds(tools.alloc, term))
-}
-
-fn read_bare(
-    tools: &Tools,
-    names: &mut Names,
-    scope: &Scope,
-    place: u64,
-    text: &[u8],
-) -> Result<Formula, FormStop>
-    ensures { Reads names.old names.new result (bare_formula_by (bare_form (bare_token text.now)) scope.now place text.now) }
-{
-    match bare_form(tools.bare_token(text)) {
-        BareForm::Predicate => read_name(tools, names, scope, place, text),
-        BareForm::True => Ok(Formula::True),
-        BareForm::False => Ok(Formula::False),
-        BareForm::Other => Err(refusal(FormKind::NotAFormula, place)),
+impl<'e> FormReader<'e> {
+    /// A predicate without arguments, or a variable, as a formula.
+    fn read_name(&mut self, place: u64, text: &[u8]) -> Result<Formula, FormStop>
+        ensures { ReadsIn self.old.terms self.new.terms result
+            (made holds (name_term place text.now)) }
+    {
+        let term = self.terms.read_name_term(place, text)?;
+        Ok(holds(self.terms.alloc(), term))
     }
-}
 
-/// The formula that an expression is.
-#[cycle(read_formula)]
-#[tactic(auto, using(crate::proofs::FormulaLemmas::formula_levels))]
-pub(crate) fn read_formula(
-    tools: &Tools,
-    names: &mut Names,
-    scope: &Scope,
-    sexp: &Sexp,
-) -> Result<Formula, FormStop>
-    ensures { Reads names.old names.new result (formula sexp.now scope.now) }
-{
-    match sexp {
-        Sexp::Bare(place, text) => read_bare(tools, names, scope, *place, text.as_slice()),
-        Sexp::Barred(place, text) => read_name(tools, names, scope, *place, text.as_slice()),
-        Sexp::List(place, items) => {
-            let [head, parts @ ..] = items.as_slice() else {
-                return Err(refusal(FormKind::EmptyList, *place));
-            };
-            let place = *place;
-            match form_of(tools.token_of(head)) {
-                Form::Predicate => {
-                    read_predicate(tools, names, scope, place_of(head), text_of(head), parts)
-                },
-                Form::And => read_and(tools, names, scope, parts),
-                Form::Or => read_or(tools, names, scope, parts),
-                Form::Not => read_negation(tools, names, scope, place, parts),
-                Form::Join(join) => read_junction(tools, names, scope, join, place, parts),
-                Form::Bind(binder) => read_quantifier(tools, names, scope, binder, place, parts),
-                Form::Relate(relation) => read_relation(
-                    tools, names, scope, relation, place, parts,
-                ),
-                Form::Distinct => read_distinction(tools, names, scope, place, parts),
-                Form::Label(labelling) => {
-                    read_labelling(tools, names, scope, labelling, place, parts)
+    fn read_bare(&mut self, place: u64, text: &[u8]) -> Result<Formula, FormStop>
+        ensures { ReadsIn self.old.terms self.new.terms result
+            (bare_formula_by (bare_form (bare_token text.now)) place text.now) }
+    {
+        match bare_form(self.terms.bare_token(text)) {
+            BareForm::Predicate => self.read_name(place, text),
+            BareForm::True => Ok(Formula::True),
+            BareForm::False => Ok(Formula::False),
+            BareForm::Other => Err(refusal(FormKind::NotAFormula, place)),
+        }
+    }
+
+    /// The formula that an expression is.
+    #[cycle(read_formula)]
+    #[tactic(auto, using(crate::proofs::FormulaLemmas::formula_levels))]
+    pub(crate) fn read_formula(&mut self, sexp: &'e Sexp) -> Result<Formula, FormStop>
+        ensures { ReadsIn self.old.terms self.new.terms result (formula sexp.now) }
+    {
+        match sexp {
+            Sexp::Bare(place, text) => self.read_bare(*place, text.as_slice()),
+            Sexp::Barred(place, text) => self.read_name(*place, text.as_slice()),
+            Sexp::List(place, items) => {
+                let [head, parts @ ..] = items.as_slice() else {
+                    return Err(refusal(FormKind::EmptyList, *place));
+                };
+                let place = *place;
+                match form_of(self.terms.token_of(head)) {
+                    Form::Predicate => self.read_predicate(place_of(head), text_of(head), parts),
+                    Form::And => self.read_and(parts),
+                    Form::Or => self.read_or(parts),
+                    Form::Not => self.read_negation(place, parts),
+                    Form::Join(join) => self.read_junction(join, place, parts),
+                    Form::Bind(binder) => self.read_quantifier(binder, place, parts),
+                    Form::Relate(relation) => self.read_relation(relation, place, parts),
+                    Form::Distinct => self.read_distinction(place, parts),
+                    Form::Label(labelling) => self.read_labelling(labelling, place, parts),
+                    Form::Misplaced => Err(refusal(FormKind::MisplacedPattern, place_of(head))),
+                    Form::Other => Err(refusal(FormKind::NotAFormula, place_of(head))),
                 }
-                Form::Misplaced => Err(refusal(FormKind::MisplacedPattern, place_of(head))),
-                Form::Other => Err(refusal(FormKind::NotAFormula, place_of(head))),
             }
         }
     }
-}
 
-/// A predicate at its arguments.
-fn read_predicate(
-    tools: &Tools,
-    names: &mut Names,
-    scope: &Scope,
-    place: u64,
-    text: &[u8],
-    args: &[Sexp],
-) -> Result<Formula, FormStop>
-    ensures { Reads names.old names.new result (made holds (application scope.now place text.now (map (term scope.now) args.now))) }
-{
-    let term = read_application(tools, names, scope, place, text, args)?;
-    Ok(holds(tools.alloc, term))
-}
-
-#[cycle(read_formula)]
-fn read_and(
-    tools: &Tools,
-    names: &mut Names,
-    scope: &Scope,
-    parts: &[Sexp],
-) -> Result<Formula, FormStop>
-    ensures { Reads names.old names.new result (made Formula.And (each (map (λ e. formula e scope.now) parts.now))) }
-{
-    let parts = read_formulas(tools, names, scope, parts)?;
-    Ok(Formula::And(parts))
-}
-
-#[cycle(read_formula)]
-fn read_or(
-    tools: &Tools,
-    names: &mut Names,
-    scope: &Scope,
-    parts: &[Sexp],
-) -> Result<Formula, FormStop>
-    ensures { Reads names.old names.new result (made Formula.Or (each (map (λ e. formula e scope.now) parts.now))) }
-{
-    let parts = read_formulas(tools, names, scope, parts)?;
-    Ok(Formula::Or(parts))
-}
-
-/// Formulas, from the front.
-#[cycle(read_formula)]
-pub(crate) fn read_formulas(
-    tools: &Tools,
-    names: &mut Names,
-    scope: &Scope,
-    parts: &[Sexp],
-) -> Result<Formulas, FormStop>
-    ensures { Reads names.old names.new result (each (map (λ e. formula e scope.now) parts.now)) }
-{
-    let mut formulas = Items::new(tools.alloc);
-    'parts: for part in parts {
-        let formula = read_formula(tools, names, scope, part)?;
-        formulas.push(formula).map_err(exhausted)?;
+    /// A predicate at its arguments.
+    fn read_predicate(
+        &mut self,
+        place: u64,
+        text: &[u8],
+        args: &[Sexp],
+    ) -> Result<Formula, FormStop>
+        ensures { ReadsIn self.old.terms self.new.terms result
+            (made holds (application place text.now (map term args.now))) }
+    {
+        let term = self.terms.read_application(place, text, args)?;
+        Ok(holds(self.terms.alloc(), term))
     }
-    Ok(formulas)
-}
 
-#[cycle(read_formula)]
-fn read_negation(
-    tools: &Tools,
-    names: &mut Names,
-    scope: &Scope,
-    place: u64,
-    parts: &[Sexp],
-) -> Result<Formula, FormStop>
-    ensures { Reads names.old names.new result (negation scope.now place (map part_of parts.now)) }
-{
-    if parts.len() != 1 {
-        return Err(refusal(FormKind::WrongCount, place));
+    #[cycle(read_formula)]
+    fn read_and(&mut self, parts: &'e [Sexp]) -> Result<Formula, FormStop>
+        ensures { ReadsIn self.old.terms self.new.terms result
+            (made Formula.And (each (map formula parts.now))) }
+    {
+        let parts = self.read_formulas(parts)?;
+        Ok(Formula::And(parts))
     }
-    let part = read_formula(tools, names, scope, &parts[0])?;
-    built(not(tools.alloc, part))
-}
 
-#[cycle(read_formula)]
-fn read_junction(
-    tools: &Tools,
-    names: &mut Names,
-    scope: &Scope,
-    join: Join,
-    place: u64,
-    parts: &[Sexp],
-) -> Result<Formula, FormStop>
-    ensures { Reads names.old names.new result (junction join scope.now place (map part_of parts.now)) }
-{
-    if parts.len() != 2 {
-        return Err(refusal(FormKind::WrongCount, place));
+    #[cycle(read_formula)]
+    fn read_or(&mut self, parts: &'e [Sexp]) -> Result<Formula, FormStop>
+        ensures { ReadsIn self.old.terms self.new.terms result
+            (made Formula.Or (each (map formula parts.now))) }
+    {
+        let parts = self.read_formulas(parts)?;
+        Ok(Formula::Or(parts))
     }
-    let left = read_formula(tools, names, scope, &parts[0])?;
-    let right = read_formula(tools, names, scope, &parts[1])?;
-    built(joined(tools.alloc, join, left, right))
-}
 
-fn read_relation(
-    tools: &Tools,
-    names: &mut Names,
-    scope: &Scope,
-    relation: Relation,
-    place: u64,
-    parts: &[Sexp],
-) -> Result<Formula, FormStop>
-    ensures { Reads names.old names.new result (relation_of relation scope.now place parts.now) }
-{
-    if parts.len() != 2 {
-        return Err(refusal(FormKind::WrongCount, place));
+    /// Formulas, from the front.
+    #[cycle(read_formula)]
+    pub(crate) fn read_formulas(&mut self, parts: &'e [Sexp]) -> Result<Formulas, FormStop>
+        ensures { ReadsIn self.old.terms self.new.terms result (each (map formula parts.now)) }
+    {
+        let mut formulas = Items::new(self.terms.alloc());
+        'parts: for part in parts {
+            let formula = self.read_formula(part)?;
+            formulas.push(formula).map_err(exhausted)?;
+        }
+        Ok(formulas)
     }
-    let left = read_term(tools, names, scope, &parts[0])?;
-    let right = read_term(tools, names, scope, &parts[1])?;
-    built(related(tools.alloc, relation, left, right))
-}
 
-fn read_distinction(
-    tools: &Tools,
-    names: &mut Names,
-    scope: &Scope,
-    place: u64,
-    parts: &[Sexp],
-) -> Result<Formula, FormStop>
-    ensures { Reads names.old names.new result (distinction scope.now place parts.now) }
-{
-    if parts.len() == 0 {
-        return Err(refusal(FormKind::WrongCount, place));
+    #[cycle(read_formula)]
+    fn read_negation(&mut self, place: u64, parts: &'e [Sexp]) -> Result<Formula, FormStop>
+        ensures { ReadsIn self.old.terms self.new.terms result
+            (negation place (map part_of parts.now)) }
+    {
+        if parts.len() != 1 {
+            return Err(refusal(FormKind::WrongCount, place));
+        }
+        let part = self.read_formula(&parts[0])?;
+        built(not(self.terms.alloc(), part))
     }
-    let terms = read_terms(tools, names, scope, parts)?;
-    Ok(Formula::Distinct(terms))
-}
 
-#[cycle(read_formula)]
-fn read_labelling(
-    tools: &Tools,
-    names: &mut Names,
-    scope: &Scope,
-    labelling: Labelling,
-    place: u64,
-    parts: &[Sexp],
-) -> Result<Formula, FormStop>
-    ensures { Reads names.old names.new result (labelling_of labelling scope.now place (map part_of parts.now)) }
-{
-    if parts.len() != 2 {
-        return Err(refusal(FormKind::WrongCount, place));
+    #[cycle(read_formula)]
+    fn read_junction(
+        &mut self,
+        join: Join,
+        place: u64,
+        parts: &'e [Sexp],
+    ) -> Result<Formula, FormStop>
+        ensures { ReadsIn self.old.terms self.new.terms result
+            (junction join place (map part_of parts.now)) }
+    {
+        if parts.len() != 2 {
+            return Err(refusal(FormKind::WrongCount, place));
+        }
+        let left = self.read_formula(&parts[0])?;
+        let right = self.read_formula(&parts[1])?;
+        built(joined(self.terms.alloc(), join, left, right))
     }
-    let name = read_label(tools, names, &parts[0])?;
-    let part = read_formula(tools, names, scope, &parts[1])?;
-    built(labelled(tools.alloc, labelling, name, part))
-}
 
-#[cycle(read_formula)]
-fn read_quantifier(
-    tools: &Tools,
-    names: &mut Names,
-    scope: &Scope,
-    binder: Binder,
-    place: u64,
-    parts: &[Sexp],
-) -> Result<Formula, FormStop>
-    ensures { Reads names.old names.new result (quantifier binder scope.now place (map part_of parts.now)) }
-{
-    if parts.len() < 2 {
-        return Err(refusal(FormKind::WrongCount, place));
+    fn read_relation(
+        &mut self,
+        relation: Relation,
+        place: u64,
+        parts: &[Sexp],
+    ) -> Result<Formula, FormStop>
+        ensures { ReadsIn self.old.terms self.new.terms result
+            (relation_of relation place parts.now) }
+    {
+        if parts.len() != 2 {
+            return Err(refusal(FormKind::WrongCount, place));
+        }
+        let left = self.terms.read_term(&parts[0])?;
+        let right = self.terms.read_term(&parts[1])?;
+        built(related(self.terms.alloc(), relation, left, right))
     }
-    let own = read_variables(tools, &parts[0])?;
-    let inside = own.within(tools.alloc, scope).map_err(exhausted)?;
-    let notes = read_notes(tools, names, &inside, place, parts)?;
-    let body = read_formula(tools, names, &inside, &parts[parts.len() - 1])?;
-    built(bound(tools.alloc, binder, &own, notes, body))
-}
 
-/// The notes of a quantifier: all its parts but the first and the last.
-#[cycle(read_formula)]
-fn read_notes(
-    tools: &Tools,
-    names: &mut Names,
-    inside: &Scope,
-    place: u64,
-    parts: &[Sexp],
-) -> Result<Notes, FormStop>
-    requires { 2 ≤ length parts.now }
-    ensures { Reads names.old names.new result (made all_notes (each (map (note_part inside.now place) (map part_of (middle parts.now))))) }
-{
-    let mut notes = Notes::new(tools.alloc);
-    'parts: for at in 1..parts.len() - 1 {
-        let note = read_note(tools, names, inside, place, &parts[at])?;
-        notes.add(note).map_err(exhausted)?;
+    fn read_distinction(&mut self, place: u64, parts: &[Sexp]) -> Result<Formula, FormStop>
+        ensures { ReadsIn self.old.terms self.new.terms result (distinction place parts.now) }
+    {
+        if parts.len() == 0 {
+            return Err(refusal(FormKind::WrongCount, place));
+        }
+        let terms = self.terms.read_terms(parts)?;
+        Ok(Formula::Distinct(terms))
     }
-    Ok(notes)
-}
 
-#[cycle(read_formula)]
-fn read_note(
-    tools: &Tools,
-    names: &mut Names,
-    inside: &Scope,
-    place: u64,
-    part: &Sexp,
-) -> Result<Notes, FormStop>
-    ensures { Reads names.old names.new result (note_part inside.now place (part_of part.now)) }
-{
-    match note_of(tools.head_of(part)) {
-        Some(Note::Patterns) => read_pattern_note(tools, names, inside, args_of(part)),
-        Some(Note::Exempt) => read_exempt_note(tools, names, inside, args_of(part)),
-        Some(Note::Id) => Ok(Notes::new(tools.alloc)),
-        None => {
-            read_formula(tools, names, inside, part)?;
-            Err(refusal(FormKind::WrongCount, place))
+    #[cycle(read_formula)]
+    fn read_labelling(
+        &mut self,
+        labelling: Labelling,
+        place: u64,
+        parts: &'e [Sexp],
+    ) -> Result<Formula, FormStop>
+        ensures { ReadsIn self.old.terms self.new.terms result
+            (labelling_of labelling place (map part_of parts.now)) }
+    {
+        if parts.len() != 2 {
+            return Err(refusal(FormKind::WrongCount, place));
+        }
+        let name = self.terms.read_label(&parts[0])?;
+        let part = self.read_formula(&parts[1])?;
+        built(labelled(self.terms.alloc(), labelling, name, part))
+    }
+
+    #[cycle(read_formula)]
+    fn read_quantifier(
+        &mut self,
+        binder: Binder,
+        place: u64,
+        parts: &'e [Sexp],
+    ) -> Result<Formula, FormStop>
+        ensures { ReadsIn self.old.terms self.new.terms result
+            (quantifier binder place (map part_of parts.now)) }
+    {
+        let [list, .., body] = parts else {
+            return Err(refusal(FormKind::WrongCount, place));
+        };
+        let count = self.terms.read_variables(list)?;
+        let notes = self.read_notes(place, parts)?;
+        let body = self.read_formula(body)?;
+        self.terms.leave(count);
+        built(bound(self.terms.alloc(), binder, count, notes, body))
+    }
+
+    /// The notes of a quantifier: all its parts but the first and the last.
+    #[cycle(read_formula)]
+    fn read_notes(&mut self, place: u64, parts: &'e [Sexp]) -> Result<Notes, FormStop>
+        requires { 2 ≤ length parts.now }
+        ensures { ReadsIn self.old.terms self.new.terms result
+            (made all_notes (each (map (note_of_part place) (middle parts.now)))) }
+    {
+        let mut notes = Notes::new(self.terms.alloc());
+        'parts: for at in 1..parts.len() - 1 {
+            let note = self.read_note(place, &parts[at])?;
+            notes.add(note).map_err(exhausted)?;
+        }
+        Ok(notes)
+    }
+
+    #[cycle(read_formula)]
+    fn read_note(&mut self, place: u64, part: &'e Sexp) -> Result<Notes, FormStop>
+        ensures { ReadsIn self.old.terms self.new.terms result (note_of_part place part.now) }
+    {
+        match note_of(self.terms.head_of(part)) {
+            Some(Note::Patterns) => self.read_pattern_note(args_of(part)),
+            Some(Note::Exempt) => self.read_exempt_note(args_of(part)),
+            Some(Note::Id) => Ok(Notes::new(self.terms.alloc())),
+            None => {
+                self.read_formula(part)?;
+                Err(refusal(FormKind::WrongCount, place))
+            }
         }
     }
 }

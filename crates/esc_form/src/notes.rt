@@ -1,16 +1,15 @@
 //! The notes of a quantifier.
 
 ghost use Rattle.std.specs.Prelude.{◌≡◌, [], ◌∷◌, map, IfOk, OnOk};
-ghost use Rattle.esc_read.specs.Reading.{Reads, each};
+ghost use Rattle.esc_read.specs.Reading.{ReadsIn, each};
 ghost use Rattle.esc_read.specs.Terms.{term};
-ghost use Rattle.esc_form.specs.Patterns.{alone, both_notes, made, only_exempt, only_patterns, pattern, several};
+ghost use Rattle.esc_form.specs.Patterns.{alone, both_notes, made, only_exempt, only_patterns};
+ghost use Rattle.esc_form.specs.Patterns.{pattern, several};
 
 use crate::build::exhausted;
 use crate::form::is_multi;
-use esc_names::Names;
-use esc_read::{
-    FormKind, FormStop, Scope, Tools, args_of, place_of, read_term, read_terms, refusal,
-};
+use crate::reader::FormReader;
+use esc_read::{FormKind, FormStop, args_of, place_of, refusal};
 use esc_sexp::Sexp;
 use esc_term::{Patterns, Term, Terms};
 use sqlite_items::Items;
@@ -43,89 +42,67 @@ impl Notes {
     }
 }
 
-/// The terms of a pattern.
-fn read_pattern(
-    tools: &Tools,
-    names: &mut Names,
-    scope: &Scope,
-    sexp: &Sexp,
-) -> Result<Terms, FormStop>
-    ensures { Reads names.old names.new result (pattern scope.now sexp.now) }
-{
-    if !is_multi(tools.head_of(sexp)) {
-        return read_one(tools, names, scope, sexp);
+impl<'e> FormReader<'e> {
+    /// The terms of a pattern.
+    fn read_pattern(&mut self, sexp: &Sexp) -> Result<Terms, FormStop>
+        ensures { ReadsIn self.old.terms self.new.terms result (pattern sexp.now) }
+    {
+        if !is_multi(self.terms.head_of(sexp)) {
+            return self.read_one(sexp);
+        }
+        self.read_several(place_of(sexp), args_of(sexp))
     }
-    read_several(tools, names, scope, place_of(sexp), args_of(sexp))
-}
 
-fn read_one(tools: &Tools, names: &mut Names, scope: &Scope, sexp: &Sexp) -> Result<Terms, FormStop>
-    ensures { Reads names.old names.new result (made alone (term scope.now sexp.now)) }
-{
-    let term = read_term(tools, names, scope, sexp)?;
-    let mut terms = Items::new(tools.alloc);
-    terms.push(term).map_err(exhausted)?;
-    Ok(terms)
-}
-
-fn read_several(
-    tools: &Tools,
-    names: &mut Names,
-    scope: &Scope,
-    place: u64,
-    args: &[Sexp],
-) -> Result<Terms, FormStop>
-    ensures { Reads names.old names.new result (several scope.now place args.now) }
-{
-    if args.len() == 0 {
-        return Err(refusal(FormKind::WrongCount, place));
+    fn read_one(&mut self, sexp: &Sexp) -> Result<Terms, FormStop>
+        ensures { ReadsIn self.old.terms self.new.terms result (made alone (term sexp.now)) }
+    {
+        let term = self.terms.read_term(sexp)?;
+        let mut terms = Items::new(self.terms.alloc());
+        terms.push(term).map_err(exhausted)?;
+        Ok(terms)
     }
-    read_terms(tools, names, scope, args)
-}
 
-fn read_patterns(
-    tools: &Tools,
-    names: &mut Names,
-    scope: &Scope,
-    parts: &[Sexp],
-) -> Result<Patterns, FormStop>
-    ensures { Reads names.old names.new result (each (map (pattern scope.now) parts.now)) }
-{
-    let mut patterns = Items::new(tools.alloc);
-    'parts: for part in parts {
-        let pattern = read_pattern(tools, names, scope, part)?;
-        patterns.push(pattern).map_err(exhausted)?;
+    fn read_several(&mut self, place: u64, args: &[Sexp]) -> Result<Terms, FormStop>
+        ensures { ReadsIn self.old.terms self.new.terms result (several place args.now) }
+    {
+        if args.len() == 0 {
+            return Err(refusal(FormKind::WrongCount, place));
+        }
+        self.terms.read_terms(args)
     }
-    Ok(patterns)
-}
 
-/// The note PATS of these patterns.
-pub(crate) fn read_pattern_note(
-    tools: &Tools,
-    names: &mut Names,
-    scope: &Scope,
-    parts: &[Sexp],
-) -> Result<Notes, FormStop>
-    ensures { Reads names.old names.new result (made only_patterns (each (map (pattern scope.now) parts.now))) }
-{
-    let patterns = read_patterns(tools, names, scope, parts)?;
-    Ok(Notes {
-        patterns,
-        exempt: Items::new(tools.alloc),
-    })
-}
+    fn read_patterns(&mut self, parts: &[Sexp]) -> Result<Patterns, FormStop>
+        ensures { ReadsIn self.old.terms self.new.terms result (each (map pattern parts.now)) }
+    {
+        let mut patterns = Items::new(self.terms.alloc());
+        'parts: for part in parts {
+            let pattern = self.read_pattern(part)?;
+            patterns.push(pattern).map_err(exhausted)?;
+        }
+        Ok(patterns)
+    }
 
-/// The note NOPATS of these terms.
-pub(crate) fn read_exempt_note(
-    tools: &Tools,
-    names: &mut Names,
-    scope: &Scope,
-    parts: &[Sexp],
-) -> Result<Notes, FormStop>
-    ensures { Reads names.old names.new result (made only_exempt (each (map (term scope.now) parts.now))) }
-{
-    let exempt = read_terms(tools, names, scope, parts)?;
-    Ok(Notes {
-        patterns: Items::new(tools.alloc),
-        exempt,
-    })
+    /// The note PATS of these patterns.
+    pub(crate) fn read_pattern_note(&mut self, parts: &[Sexp]) -> Result<Notes, FormStop>
+        ensures { ReadsIn self.old.terms self.new.terms result
+            (made only_patterns (each (map pattern parts.now))) }
+    {
+        let patterns = self.read_patterns(parts)?;
+        Ok(Notes {
+            patterns,
+            exempt: Items::new(self.terms.alloc()),
+        })
+    }
+
+    /// The note NOPATS of these terms.
+    pub(crate) fn read_exempt_note(&mut self, parts: &[Sexp]) -> Result<Notes, FormStop>
+        ensures { ReadsIn self.old.terms self.new.terms result
+            (made only_exempt (each (map term parts.now))) }
+    {
+        let exempt = self.terms.read_terms(parts)?;
+        Ok(Notes {
+            patterns: Items::new(self.terms.alloc()),
+            exempt,
+        })
+    }
 }

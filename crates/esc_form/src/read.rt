@@ -1,31 +1,21 @@
 //! Commands from expressions.
 
-ghost use Rattle.std.specs.Prelude.{◌≡◌, IfOk};
-ghost use Rattle.esc_read.specs.Reading.{Plain, Reads};
+ghost use Rattle.std.specs.Prelude.{◌≡◌};
+ghost use Rattle.esc_read.specs.Reading.{Plain, ReadsBy, ReadsIn};
 ghost use Rattle.esc_read.specs.Tokens.{head_of};
-ghost use Rattle.esc_form.specs.Commands.{bound_variables, command, defined, definition_of, goal_of, is_name, kind_by, nothing_behind, order_of, predicate, pushed, rule, ruled, signature, signature_list};
+ghost use Rattle.esc_form.specs.Commands.{command, command_reading, defined, goal_of, kind_by};
+ghost use Rattle.esc_form.specs.Commands.{meaning, named};
+ghost use Rattle.esc_form.specs.Commands.{named_list, nothing_behind, order_of, is_name, pushed};
 
-use crate::build::{bound, exhausted, holds, joined};
+use crate::build::exhausted;
 use crate::command::{Command, Kind};
-use crate::formula::{read_formula, read_formulas};
-use crate::notes::Notes;
-use esc_names::Names;
-use esc_read::{
-    Binder, FormKind, FormStop, Join, Key, Order, Scope, Token, Tools, args_of, place_of,
-    read_declared, read_symbol, refusal, text_of,
-};
+use crate::definition::{Named, definition_of, rule};
+use crate::reader::FormReader;
+use esc_names::{Key, Names, Order};
+use esc_read::{FormKind, FormStop, Token, args_of, place_of, refusal, text_of};
 use esc_sexp::Sexp;
-use esc_term::{Formula, Head, Sym, Term, Terms};
-use sqlite_items::Items;
-use std::alloc::{AllocError, Global};
-
-/// A predicate that is defined: its name with its place, and its variables.
-#[derive(Drop)]
-pub struct Signature {
-    pub name: Sym,
-    pub place: u64,
-    pub variables: Scope,
-}
+use std::alloc::Global;
+use std::mem;
 
 /// The command of a list that is no goal.
 fn order_of(token: Token) -> Option<Order>
@@ -37,49 +27,26 @@ fn order_of(token: Token) -> Option<Order>
     }
 }
 
+fn is_name(token: Token) -> bool
+    ensures { result ≡ is_name token }
+{
+    match token {
+        Token::Name => true,
+        Token::Numeral | Token::Word(_) | Token::List => false,
+    }
+}
+
 /// The command that an expression is. Names that the table does not have yet get numbers in it.
 ///
-/// The refusal is the first one from the front. After a refusal and after want of memory the table may have grown.
+/// The refusal is the first one from the front. After a refusal and after want of memory the table
+/// may have grown.
 pub fn read_command(alloc: Global, sexp: &Sexp, names: &mut Names) -> Result<Command, FormStop>
-    ensures { Reads names.old names.new result (command sexp.now) }
+    ensures { ReadsBy names.old names.new result (command sexp.now) }
 {
-    let tools = Tools::new(alloc);
-    let kind = read_kind(&tools, names, sexp)?;
-    Ok(Command {
-        place: place_of(sexp),
-        kind,
-    })
-}
-
-fn read_kind(tools: &Tools, names: &mut Names, sexp: &Sexp) -> Result<Kind, FormStop>
-    ensures { Reads names.old names.new result (kind_by (order_of (head_of sexp.now)) sexp.now) }
-{
-    match order_of(tools.head_of(sexp)) {
-        Some(Order::Push) => read_push(tools, names, place_of(sexp), args_of(sexp)),
-        Some(Order::Pop) => read_alone(Kind::Pop, place_of(sexp), args_of(sexp)),
-        Some(Order::Prompt) => read_alone(Kind::Prompt, place_of(sexp), args_of(sexp)),
-        Some(Order::Define) => read_definition(tools, names, place_of(sexp), args_of(sexp)),
-        None => read_goal(tools, names, sexp),
-    }
-}
-
-fn read_goal(tools: &Tools, names: &mut Names, sexp: &Sexp) -> Result<Kind, FormStop>
-    ensures { Reads names.old names.new result (goal_of sexp.now) }
-{
-    let scope = Scope::new(tools.alloc);
-    let goal = read_formula(tools, names, &scope, sexp)?;
-    Ok(Kind::Goal(goal))
-}
-
-fn read_push(tools: &Tools, names: &mut Names, place: u64, parts: &[Sexp]) -> Result<Kind, FormStop>
-    ensures { Reads names.old names.new result (pushed place parts.now) }
-{
-    if parts.len() == 0 {
-        return Err(refusal(FormKind::WrongCount, place));
-    }
-    let scope = Scope::new(tools.alloc);
-    let formulas = read_formulas(tools, names, &scope, parts)?;
-    Ok(Kind::Push(formulas))
+    let mut reader = FormReader::new(alloc, mem::replace(names, Names::empty(alloc)));
+    let read = reader.read_command(sexp);
+    *names = reader.into_names();
+    read
 }
 
 /// A command without arguments.
@@ -92,123 +59,105 @@ fn read_alone(kind: Kind, place: u64, parts: &[Sexp]) -> Result<Kind, FormStop>
     Ok(kind)
 }
 
-fn read_definition(
-    tools: &Tools,
-    names: &mut Names,
-    place: u64,
-    parts: &[Sexp],
-) -> Result<Kind, FormStop>
-    ensures { Reads names.old names.new result (defined place parts.now) }
-{
-    if parts.len() == 2 {
-        return read_rule(tools, names, &parts[0], &parts[1]);
+impl<'e> FormReader<'e> {
+    fn read_command(&mut self, sexp: &'e Sexp) -> Result<Command, FormStop>
+        ensures { ReadsIn self.old.terms self.new.terms result (command_reading sexp.now) }
+    {
+        let kind = self.read_kind(sexp)?;
+        Ok(Command {
+            place: place_of(sexp),
+            kind,
+        })
     }
-    if parts.len() != 1 {
-        return Err(refusal(FormKind::WrongCount, place));
+
+    fn read_kind(&mut self, sexp: &'e Sexp) -> Result<Kind, FormStop>
+        ensures { ReadsIn self.old.terms self.new.terms result
+            (kind_by (order_of (head_of sexp.now)) sexp.now) }
+    {
+        match order_of(self.terms.head_of(sexp)) {
+            Some(Order::Push) => self.read_push(place_of(sexp), args_of(sexp)),
+            Some(Order::Pop) => read_alone(Kind::Pop, place_of(sexp), args_of(sexp)),
+            Some(Order::Prompt) => read_alone(Kind::Prompt, place_of(sexp), args_of(sexp)),
+            Some(Order::Define) => self.read_definition(place_of(sexp), args_of(sexp)),
+            None => self.read_goal(sexp),
+        }
     }
-    let signature = read_signature(tools, names, &parts[0])?;
-    Ok(definition_of(&signature, None))
-}
 
-/// A predicate and what it means.
-fn read_rule(tools: &Tools, names: &mut Names, first: &Sexp, body: &Sexp) -> Result<Kind, FormStop>
-    ensures { Reads names.old names.new result (ruled first.now body.now) }
-{
-    let signature = read_signature(tools, names, first)?;
-    let body = read_formula(tools, names, &signature.variables, body)?;
-    let rule = rule(tools.alloc, &signature, body).map_err(exhausted)?;
-    Ok(definition_of(&signature, Some(rule)))
-}
-
-fn definition_of(signature: &Signature, rule: Option<Formula>) -> Kind
-    ensures { result ≡ definition_of signature.now rule }
-{
-    Kind::Define {
-        name: signature.name,
-        count: signature.variables.len() as u64,
-        name_place: signature.place,
-        rule,
+    fn read_goal(&mut self, sexp: &'e Sexp) -> Result<Kind, FormStop>
+        ensures { ReadsIn self.old.terms self.new.terms result (goal_of sexp.now) }
+    {
+        let goal = self.read_formula(sexp)?;
+        Ok(Kind::Goal(goal))
     }
-}
 
-/// The predicate of a definition with its variables.
-fn read_signature(tools: &Tools, names: &mut Names, sexp: &Sexp) -> Result<Signature, FormStop>
-    ensures { Reads names.old names.new result (signature sexp.now) }
-{
-    let place = place_of(sexp);
-    match sexp {
-        Sexp::List(_, items) => read_signature_list(tools, names, place, items.as_slice()),
-        Sexp::Bare(_, _) => Err(refusal(FormKind::NotAFormula, place)),
-        Sexp::Barred(_, _) => Err(refusal(FormKind::NotAFormula, place)),
+    fn read_push(&mut self, place: u64, parts: &'e [Sexp]) -> Result<Kind, FormStop>
+        ensures { ReadsIn self.old.terms self.new.terms result (pushed place parts.now) }
+    {
+        if parts.len() == 0 {
+            return Err(refusal(FormKind::WrongCount, place));
+        }
+        let formulas = self.read_formulas(parts)?;
+        Ok(Kind::Push(formulas))
     }
-}
 
-fn read_signature_list(
-    tools: &Tools,
-    names: &mut Names,
-    place: u64,
-    items: &[Sexp],
-) -> Result<Signature, FormStop>
-    ensures { Reads names.old names.new result (signature_list place items.now) }
-{
-    let [head, args @ ..] = items else {
-        return Err(refusal(FormKind::NotAFormula, place));
-    };
-    if !is_name(tools.token_of(head)) {
-        return Err(refusal(FormKind::NotAFormula, place));
+    fn read_definition(&mut self, place: u64, parts: &'e [Sexp]) -> Result<Kind, FormStop>
+        ensures { ReadsIn self.old.terms self.new.terms result (defined place parts.now) }
+    {
+        let [signature, bodies @ ..] = parts else {
+            return Err(refusal(FormKind::WrongCount, place));
+        };
+        if bodies.len() > 1 {
+            return Err(refusal(FormKind::WrongCount, place));
+        }
+        let named = self.read_named(signature)?;
+        let count = self.terms.read_declared(args_of(signature))?;
+        let kind = self.read_meaning(named, count, bodies)?;
+        self.terms.leave(count);
+        Ok(kind)
     }
-    let name = read_symbol(names, place_of(head), text_of(head))?;
-    let variables = read_declared(tools, args)?;
-    Ok(Signature {
-        name,
-        place: place_of(head),
-        variables,
-    })
-}
 
-fn is_name(token: Token) -> bool
-    ensures { result ≡ is_name token }
-{
-    match token {
-        Token::Name => true,
-        Token::Numeral | Token::Word(_) | Token::List => false,
+    /// The name of the predicate that a list defines.
+    fn read_named(&mut self, sexp: &Sexp) -> Result<Named, FormStop>
+        ensures { ReadsIn self.old.terms self.new.terms result (named sexp.now) }
+    {
+        let place = place_of(sexp);
+        match sexp {
+            Sexp::List(_, items) => self.read_named_list(place, items.as_slice()),
+            Sexp::Bare(_, _) => Err(refusal(FormKind::NotAFormula, place)),
+            Sexp::Barred(_, _) => Err(refusal(FormKind::NotAFormula, place)),
+        }
     }
-}
 
-/// The predicate at its variables.
-fn predicate(alloc: Global, signature: &Signature) -> Result<Term, AllocError>
-    ensures { IfOk result (λ t. t ≡ predicate signature.now) }
-{
-    let args = bound_variables(alloc, signature.variables.len() as u64)?;
-    Ok(Term::App(Head::Name(signature.name), args))
-}
-
-/// So many bound variables, the outermost first.
-fn bound_variables(alloc: Global, count: u64) -> Result<Terms, AllocError>
-    ensures { IfOk result (λ ts. ts ≡ bound_variables count) }
-{
-    let mut variables = Items::new(alloc);
-    'variables: for outside in 0..count {
-        variables.push(Term::Var(count - 1 - outside))?;
+    fn read_named_list(&mut self, place: u64, items: &[Sexp]) -> Result<Named, FormStop>
+        ensures { ReadsIn self.old.terms self.new.terms result (named_list place items.now) }
+    {
+        let [head, ..] = items else {
+            return Err(refusal(FormKind::NotAFormula, place));
+        };
+        if !is_name(self.terms.token_of(head)) {
+            return Err(refusal(FormKind::NotAFormula, place));
+        }
+        let name = self.terms.read_symbol(place_of(head), text_of(head))?;
+        Ok(Named {
+            name,
+            place: place_of(head),
+        })
     }
-    Ok(variables)
-}
 
-/// The formula that the predicate holds exactly where the body does.
-fn rule(alloc: Global, signature: &Signature, body: Formula) -> Result<Formula, AllocError>
-    ensures { IfOk result (λ f. f ≡ rule signature.now body) }
-{
-    let mut pattern = Items::new(alloc);
-    pattern.push(predicate(alloc, signature)?)?;
-    let mut notes = Notes::new(alloc);
-    notes.patterns.push(pattern)?;
-    let left = holds(alloc, predicate(alloc, signature)?);
-    let equivalence = joined(alloc, Join::Iff, left, body)?;
-    bound(
-        alloc,
-        Binder::Forall,
-        &signature.variables,
-        notes,
-        equivalence,
-    )
+    /// What the predicate means, where that is said: so many variables are in scope.
+    fn read_meaning(
+        &mut self,
+        named: Named,
+        count: usize,
+        bodies: &'e [Sexp],
+    ) -> Result<Kind, FormStop>
+        ensures { ReadsIn self.old.terms self.new.terms result (meaning named count bodies.now) }
+    {
+        let [body, ..] = bodies else {
+            return Ok(definition_of(named, count, None));
+        };
+        let body = self.read_formula(body)?;
+        let rule = rule(self.terms.alloc(), named, count, body).map_err(exhausted)?;
+        Ok(definition_of(named, count, Some(rule)))
+    }
 }

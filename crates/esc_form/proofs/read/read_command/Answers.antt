@@ -1,13 +1,12 @@
-use Rattle.std.proofs.Common.{rules}
-use Rattle.esc_read.proofs.Readings.{gives, next, stops}
-use Rattle.esc_form.specs.Commands.{command}
+use Rattle.std.proofs.Common.{◌≡◌, ◌∙◌, ap, []}
+use Rattle.esc_read.specs.Reading.{Context}
+use Rattle.esc_form.proofs.CommandLemmas.{command_is}
 use Rattle.esc_form.proofs.read.read_command.Goals as goal
 
-pub returns-in_err-kind : goal.returns-in_err-kind
-unfolding command
-returns-in_err-kind c = stops c.in_err-kind.field-0.0 _ c.read_kind.ensures c.in_err-kind.was (search rules)
-
 pub returns : goal.returns
-unfolding command
-returns c = next c.in_ok-kind.kind _ c.read_kind.ensures c.in_ok-kind.was
-    (gives (search rules))
+returns c =
+    let taken : c.replace.result ≡ c.args.names.now = c.replace.ensures.value in
+    command_is c.args.sexp.now c.args.names.now c.into_names.result
+    (c.new-reader.ensures
+    ∙ ap (λ names. let t : Context = record { names = names; scope = [] } in t) taken)
+    c.into_names.ensures c.read_command-read.ensures
