@@ -1,6 +1,5 @@
 pub mod FormulaLevels
-pub mod NameLemmas
 pub mod NoteLemmas
+pub mod PrintingLemmas
 pub mod SpacedLemmas
-pub mod TailLemmas
 pub mod TermLevels

@@ -1,96 +1,50 @@
 //! Names, in bars where they would not be read as the same name without.
 
 ghost use Rattle.std.specs.Prelude.{◌≡◌, ◌++◌};
-ghost use Rattle.esc_io.specs.Faults.{HasCause};
-ghost use Rattle.esc_io.specs.Putting.{Puts};
-ghost use Rattle.esc_print.specs.Names.{is_bare_byte, is_digit, is_run_of, is_numeral, is_reserved_word, needs_bars, name_text, spelling_text};
-ghost use Rattle.esc_print.specs.Names.{first_byte as first_of};
+ghost use Rattle.esc_io.specs.Putting.{Delivers};
+ghost use Rattle.esc_print.specs.Names.{name_text, stands_bare};
+ghost use Rattle.esc_print.specs.Printing.{Prints};
 
-use esc_io::{Failed, Sink, put_all};
-use esc_names::{Names, reserved};
+use crate::printer::Printer;
+use esc_io::{Failed, Sink};
+use esc_names::{Names, begins_with_at, is_bare_name};
 use esc_term::Sym;
 
-fn is_bare(byte: u8) -> bool
-    ensures { result ≡ is_bare_byte byte }
+fn stands_bare(spelling: &[u8]) -> bool
+    ensures { result ≡ stands_bare spelling.now }
 {
-    b'!' <= byte && byte <= b'~' && byte != b'(' && byte != b')' && byte != b'|' && byte != b';'
+    is_bare_name(spelling) && !begins_with_at(spelling)
 }
 
-fn is_bare_token(text: &[u8]) -> bool
-    ensures { result ≡ is_run_of is_bare_byte text.now }
-{
-    'bytes: for byte in text {
-        if !is_bare(*byte) {
-            return false;
+impl<K: Sink> Printer<'_, K> {
+    #[tactic(auto, using(esc_io::proofs::PuttingLemmas::putting))]
+    fn put_between(&mut self, bar: &[u8], text: &[u8]) -> Result<(), Failed>
+        ensures { Prints K.written K.faults self.old self.new result
+            (bar.now ++ (text.now ++ bar.now)) }
+    {
+        self.put_text(bar)?;
+        self.put_text(text)?;
+        self.put_text(bar)
+    }
+
+    /// Puts the name with this number. A number that is no name's is put as the empty name.
+    pub fn put_name(&mut self, name: Sym) -> Result<(), Failed>
+        ensures { Prints K.written K.faults self.old self.new result
+            (name_text self.old.names.now name) }
+    {
+        let names = self.names;
+        let spelling = names.spelling(name);
+        if stands_bare(spelling) {
+            self.put_text(spelling)
+        } else {
+            self.put_between(b"|", spelling)
         }
-    }
-    !text.is_empty()
-}
-
-fn are_digits(text: &[u8]) -> bool
-    ensures { result ≡ is_run_of is_digit text.now }
-{
-    'bytes: for byte in text {
-        if *byte < b'0' || b'9' < *byte {
-            return false;
-        }
-    }
-    !text.is_empty()
-}
-
-fn first_byte(text: &[u8]) -> u8
-    ensures { result ≡ first_of text.now }
-{
-    if text.is_empty() { 0 } else { text[0] }
-}
-
-fn is_number(text: &[u8]) -> bool
-    ensures { result ≡ is_numeral text.now }
-{
-    if first_byte(text) == b'-' {
-        are_digits(&text[1..])
-    } else {
-        are_digits(text)
-    }
-}
-
-fn is_reserved(text: &[u8]) -> bool
-    ensures { result ≡ is_reserved_word text.now }
-{
-    reserved().word(text).is_some()
-}
-
-fn must_be_barred(text: &[u8]) -> bool
-    ensures { result ≡ needs_bars text.now }
-{
-    !is_bare_token(text) || is_number(text) || is_reserved(text) || first_byte(text) == b'@'
-}
-
-#[tactic(auto, using(esc_io::proofs::PuttingLemmas::putting))]
-fn put_between<K: Sink>(bar: &[u8], text: &[u8], sink: &mut K) -> Result<(), Failed>
-    ensures bytes { Puts (K.written sink.old) (K.written sink.new) result (bar.now ++ (text.now ++ bar.now)) }
-    ensures cause { HasCause (K.faults sink.old) (K.faults sink.new) result }
-{
-    put_all(sink, bar)?;
-    put_all(sink, text)?;
-    put_all(sink, bar)
-}
-
-fn put_spelling<K: Sink>(spelling: &[u8], sink: &mut K) -> Result<(), Failed>
-    ensures bytes { Puts (K.written sink.old) (K.written sink.new) result (spelling_text spelling.now) }
-    ensures cause { HasCause (K.faults sink.old) (K.faults sink.new) result }
-{
-    if must_be_barred(spelling) {
-        put_between(b"|", spelling, sink)
-    } else {
-        put_all(sink, spelling)
     }
 }
 
 /// Puts the name with this number. A number that is no name's is put as the empty name.
 pub fn put_name<K: Sink>(value: Sym, names: &Names, sink: &mut K) -> Result<(), Failed>
-    ensures bytes { Puts (K.written sink.old) (K.written sink.new) result (name_text names.now value) }
-    ensures cause { HasCause (K.faults sink.old) (K.faults sink.new) result }
+    ensures { Delivers K.written K.faults sink.old sink.new result (name_text names.now value) }
 {
-    put_spelling(names.spelling(value), sink)
+    Printer::new(names, sink).put_name(value)
 }
