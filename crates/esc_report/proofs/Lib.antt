@@ -1,1 +1,4 @@
+pub mod Free
 pub mod Lines
+pub mod NamesReadBack
+pub mod SupportedLevels

@@ -1,1 +1,5 @@
+pub mod Found
+pub mod Laws
+pub mod PrintingLaws
+pub mod Supported
 pub mod Text

@@ -4,11 +4,15 @@ use Rattle.std.specs.List.{flat_map}
 use Rattle.esc_print.specs.Formulas.{literal_text}
 use Rattle.esc_term.specs.declared.formula.Item.{Item}
 use Rattle.esc_read.specs.declared.fault.FormKind.{FormKind}
-use Rattle.esc_read.specs.declared.fault.FormKind.TheVariants.{WrongCount, NotAFormula, NotATerm, NumberTooLarge, ReservedName, DuplicateVariable, MisplacedPattern, EmptyList}
+use Rattle.esc_read.specs.declared.fault.FormKind.TheVariants.{WrongCount, NotAFormula, NotATerm}
+use Rattle.esc_read.specs.declared.fault.FormKind.TheVariants.{NumberTooLarge, ReservedName}
+use Rattle.esc_read.specs.declared.fault.FormKind.TheVariants.{DuplicateVariable}
+use Rattle.esc_read.specs.declared.fault.FormKind.TheVariants.{MisplacedPattern, EmptyList}
 use Rattle.esc_report.specs.declared.report.Refusal.{Refusal}
 use Rattle.esc_report.specs.declared.report.Refusal.TheVariants.{Form, Unsupported}
 use Rattle.esc_report.specs.declared.report.Report.{Report}
-use Rattle.esc_report.specs.declared.report.Report.TheVariants.{Valid, Invalid, Refused, Memory, Done}
+use Rattle.esc_report.specs.declared.report.Report.TheVariants.{Valid, Invalid, Refused}
+use Rattle.esc_report.specs.declared.report.Report.TheVariants.{Memory, Done}
 
 unfoldable pub opening : List ℕ
 opening = codes "Counterexample:\n  context:\n"

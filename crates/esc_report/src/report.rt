@@ -38,7 +38,8 @@ pub enum Report {
     /// The formulas are refuted, of which the last is the negated goal.
     Valid { goal: u64, formulas: Formulas },
     Invalid { goal: u64, found: Counterexample },
-    /// The place is that of the first byte of what is wrong, or of the command where its form is not answered yet.
+    /// The place is that of the first byte of what is wrong, or of the command where its form is
+    /// not answered yet.
     Refused { place: u64, why: Refusal },
     /// Want of memory. The goal is told where the command was read as one.
     Memory { goal: Option<u64>, place: u64 },
