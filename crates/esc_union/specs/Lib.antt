@@ -1,0 +1,4 @@
+pub mod Laws
+pub mod Members
+pub mod Merges
+pub mod PartitionInside
