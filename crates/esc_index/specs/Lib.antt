@@ -1,0 +1,3 @@
+pub mod IndexInside
+pub mod Places
+pub mod ThreadsInside
