@@ -1,3 +1,7 @@
 pub mod NodeTerms
 pub mod Shapes
 pub mod Tops
+pub mod Linking
+pub mod DigestLevels
+pub mod Digests
+pub mod Passing

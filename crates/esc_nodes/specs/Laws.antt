@@ -6,7 +6,9 @@ use Rattle.esc_nodes.specs.Terms.{built, term_of}
 
 -- the term of a node stays where more nodes are made
 abbrev pub TermsStay : Type 0
-TermsStay = (nodes more : List Shape) (k : ℕ) → k < length nodes → term_of (nodes ++ more) k ≡ term_of nodes k
+TermsStay =
+    (nodes more : List Shape) (k : ℕ) → k < length nodes →
+    term_of (nodes ++ more) k ≡ term_of nodes k
 
 -- the term of a node has its top, over the terms of its arguments
 abbrev pub TermsAreBuilt : Type 0
@@ -17,8 +19,11 @@ TermsAreBuilt =
 -- no two nodes have one term
 abbrev pub TermsAreOnce : Type 0
 TermsAreOnce =
-    (nodes : List Shape) → AreTerms nodes → (j k : ℕ) → j < length nodes → k < length nodes → term_of nodes j ≡ term_of nodes k → j ≡ k
+    (nodes : List Shape) → AreTerms nodes → (j k : ℕ) → j < length nodes → k < length nodes →
+    term_of nodes j ≡ term_of nodes k → j ≡ k
 
 -- the term of a node has no variables
 abbrev pub TermsAreGround : Type 0
-TermsAreGround = (nodes : List Shape) → AreTerms nodes → (k : ℕ) → k < length nodes → IsTrue (is_ground (term_of nodes k))
+TermsAreGround =
+    (nodes : List Shape) → AreTerms nodes → (k : ℕ) → k < length nodes →
+    IsTrue (is_ground (term_of nodes k))

@@ -1,4 +1,8 @@
+pub mod DigestInside
+pub mod DigestsInside
 pub mod Laws
 pub mod Nodes
 pub mod NodesInside
+pub mod TableHeldInside
+pub mod TableInside
 pub mod Terms

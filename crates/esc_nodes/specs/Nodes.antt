@@ -20,5 +20,7 @@ shape_at nodes k = slice_index_or nodes k (record { top = Num (pos 0); args = []
 -- each argument is an older node, a numeral has no arguments, and no two nodes have one shape
 pub record AreTerms (nodes : List Shape) : Type 0 where
   pub older : (k : ℕ) → k < length nodes → All (λ a. a < k) (shape_at nodes k).args
-  pub bare : (k : ℕ) → k < length nodes → shape (shape_at nodes k).top (shape_at nodes k).args ≡ shape_at nodes k
-  pub once : (j k : ℕ) → j < length nodes → k < length nodes → shape_at nodes j ≡ shape_at nodes k → j ≡ k
+  pub bare : (k : ℕ) → k < length nodes →
+      shape (shape_at nodes k).top (shape_at nodes k).args ≡ shape_at nodes k
+  pub once : (j k : ℕ) → j < length nodes → k < length nodes →
+      shape_at nodes j ≡ shape_at nodes k → j ≡ k

@@ -1,10 +1,16 @@
-ghost use Rattle.std.specs.Prelude.{◌≡◌, ℕ, ◌+◌, ◌-◌, ◌<◌, [], ◌∷◌, ◌++◌, length, take, OnOk, OnErr, IfSome, IfNone, IsTrue, ◌↔◌, All};
+ghost use Rattle.std.specs.Prelude.{◌≡◌, ℕ, ◌+◌, ◌-◌, ◌<◌, [], ◌∷◌, ◌++◌, length, take};
+ghost use Rattle.std.specs.Prelude.{OnOk, OnErr, IfSome, IfNone, IsTrue, ◌↔◌, All};
 ghost use Rattle.esc_nodes.specs.Nodes.{shape, shape_at, AreTerms};
+ghost use Rattle.esc_nodes.specs.Terms.{term_of};
+ghost use Rattle.esc_nodes.specs.DigestInside.{digest};
+ghost use Rattle.esc_nodes.specs.DigestsInside.{shape_digest};
 
 mod term;
 
+use crate::digest::{digest_top, mix};
+use crate::table::Table;
 use crate::top::Top;
-use esc_classes::Node;
+use esc_union::Node;
 use smallvec::SmallVec;
 use std::alloc::{AllocError, Global};
 use std::marker::Model;
@@ -18,11 +24,12 @@ struct Entry {
     args: SmallVec<Node, INLINE_ARGS>,
 }
 
-/// The nodes in the order of making.
+/// The nodes in the order of making, and a table by which they are found.
 #[derive(Drop)]
 pub struct Nodes {
     alloc: Global,
     entries: Vec<Entry>,
+    table: Table,
 }
 
 impl Model for Nodes {
@@ -45,6 +52,7 @@ impl Nodes {
         Nodes {
             alloc,
             entries: Vec::new(alloc),
+            table: Table::new(alloc),
         }
     }
 
@@ -72,24 +80,50 @@ impl Nodes {
         self.entries[node.index()].args.as_slice()
     }
 
-    /// The node with this top and these arguments.
+    /// The node with this top and these arguments, in the expected time of the arguments.
     pub fn find(&self, top: Top, args: &[Node]) -> Option<Node>
-        ensures some { IfSome result (λ k. (k < length self.now) × (shape_at self.now k ≡ record { top = top; args = args.now })) }
-        ensures none { IfNone result ((k : ℕ) → k < length self.now → shape_at self.now k ≡ record { top = top; args = args.now } → ⊥) }
+        ensures some { IfSome result (λ k. (k < length self.now)
+            × (shape_at self.now k ≡ record { top = top; args = args.now })) }
+        ensures none { IfNone result ((k : ℕ) → k < length self.now →
+            shape_at self.now k ≡ record { top = top; args = args.now } → ⊥) }
     {
-        'nodes: for index in 0..self.entries.len() {
-            let node = Node::new(index);
+        let mut end = self.table.end(self.digest_of(top, args));
+        'bucket: while end > 0 {
+            let node = Node::new(end - 1);
             if self.is_shape(node, top, args) {
                 return Some(node);
             }
+            end = self.table.end_before(node.index());
         }
         None
+    }
+
+    /// The digest of the term with this top and these arguments.
+    fn digest_of(&self, top: Top, args: &[Node]) -> u64
+        ensures { result ≡ shape_digest self.now top args.now }
+    {
+        let mut done = digest_top(top);
+        'places: for arg in args {
+            done = mix(done, self.digest(*arg));
+        }
+        done
+    }
+
+    /// The digest of a node's term, which is the numeral 0 where there is no such node.
+    fn digest(&self, node: Node) -> u64
+        ensures { result ≡ digest (term_of self.now node) }
+    {
+        match self.table.digest(node.index()) {
+            Some(digest) => digest,
+            None => digest_top(Top::Num(0)),
+        }
     }
 
     /// Whether a node has this top and these arguments.
     fn is_shape(&self, node: Node, top: Top, args: &[Node]) -> bool
         requires { node < length self.now }
-        ensures { IsTrue result ↔ (shape_at self.now node ≡ record { top = top; args = args.now }) }
+        ensures { IsTrue result ↔
+            (shape_at self.now node ≡ record { top = top; args = args.now }) }
     {
         self.top(node) == top && same_nodes(self.args(node), args)
     }
@@ -98,13 +132,17 @@ impl Nodes {
     pub fn push(&mut self, top: Top, args: &[Node]) -> Result<(), AllocError>
         requires args_are_there { All (λ a. a < length self.old) args.now }
         requires bare { shape top args.now ≡ record { top = top; args = args.now } }
-        requires absent { (k : ℕ) → k < length self.old → shape_at self.old k ≡ record { top = top; args = args.now } → ⊥ }
-        ensures ok { OnOk result (self.new ≡ self.old ++ record { top = top; args = args.now } ∷ []) }
+        requires absent { (k : ℕ) → k < length self.old →
+            shape_at self.old k ≡ record { top = top; args = args.now } → ⊥ }
+        ensures ok { OnOk result
+            (self.new ≡ self.old ++ record { top = top; args = args.now } ∷ []) }
         ensures terms { AreTerms self.new }
         ensures err { OnErr result (self.new ≡ self.old) }
     {
+        let digest = self.digest_of(top, args);
         let args = SmallVec::from_slice(self.alloc, args)?;
         self.entries.reserve(1)?;
+        self.table.push(digest)?;
         self.entries.push(Entry { top, args }).unwrap();
         Ok(())
     }
@@ -116,6 +154,7 @@ impl Nodes {
         ensures terms { AreTerms self.new }
     {
         let _ = self.entries.pop();
+        self.table.pop();
     }
 }
 

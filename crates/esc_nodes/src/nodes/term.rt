@@ -1,25 +1,31 @@
-ghost use Rattle.std.specs.Prelude.{◌≡◌, ℕ, ◌+◌, ◌<◌, length, map, All, IfOk, IfSome, IfNone, IsTrue, ◌↔◌};
+ghost use Rattle.std.specs.Prelude.{◌≡◌, ℕ, ◌+◌, ◌<◌, length, map, All, IsTrue, ◌↔◌};
+ghost use Rattle.std.specs.Prelude.{IfOk, IfSome, IfNone};
 ghost use Rattle.esc_nodes.specs.Nodes.{AreTerms};
 ghost use Rattle.esc_nodes.specs.Terms.{term_of};
 
+use crate::digest::digest_term;
 use crate::nodes::Nodes;
 use crate::top::Top;
-use esc_classes::Node;
 use esc_term::Term;
+use esc_union::Node;
 use sqlite_items::Items;
 use std::alloc::AllocError;
 
 impl Nodes {
-    /// The node of a term.
+    /// The node of a term, in the expected time of the term.
     pub fn node_of(&self, term: &Term) -> Option<Node>
-        ensures some { IfSome result (λ n. (n < length self.now) × (term_of self.now n ≡ term.now)) }
-        ensures none { IfNone result ((n : ℕ) → n < length self.now → term_of self.now n ≡ term.now → ⊥) }
+        ensures some { IfSome result
+            (λ n. (n < length self.now) × (term_of self.now n ≡ term.now)) }
+        ensures none { IfNone result
+            ((n : ℕ) → n < length self.now → term_of self.now n ≡ term.now → ⊥) }
     {
-        'nodes: for index in 0..self.count() {
-            let node = Node::new(index);
+        let mut end = self.table.end(digest_term(term));
+        'bucket: while end > 0 {
+            let node = Node::new(end - 1);
             if self.has_term(node, term) {
                 return Some(node);
             }
+            end = self.table.end_before(node.index());
         }
         None
     }

@@ -8,16 +8,20 @@ use Rattle.esc_nodes.proofs.nodes.Nodes.+term.Goals as goal
 
 pub returns-in-Num : goal.returns-in-Num
 returns-in-Num t c =
-    let are : AreTerms c.args.self.now = subst AreTerms c.self.view_is c.self.invariant in
+    let are : AreTerms c.args.self.now = subst AreTerms c.self.view_is c.self.invariant.terms in
     let is : term_of c.args.self.now c.args.node ≡ term.Num c.in-Num.n =
-    term_of-Num c.args.self.now c.args.node c.in-Num.n are c.requires (sym c.top.ensures ∙ c.in-Num.is) in
+    term_of-Num c.args.self.now c.args.node c.in-Num.n are c.requires (sym c.top.ensures
+    ∙ c.in-Num.is) in
     rw is (search rules)
 
 pub returns-after-places : goal.returns-after-places
 returns-after-places t c =
-    let are : AreTerms c.args.self.now = subst AreTerms c.self.view_is c.self.invariant in
-    let is : term_of c.args.self.now c.args.node ≡ term.App c.in-App.head (map (term_of c.args.self.now) (shape_at c.args.self.now c.args.node).args) =
-    term_of-App c.args.self.now c.args.node c.in-App.head are c.requires (sym c.top.ensures ∙ c.in-App.is) in
+    let are : AreTerms c.args.self.now = subst AreTerms c.self.view_is c.self.invariant.terms in
+    let is : term_of c.args.self.now c.args.node ≡ term.App c.in-App.head
+    (map (term_of c.args.self.now) (shape_at c.args.self.now c.args.node).args) =
+    term_of-App c.args.self.now c.args.node c.in-App.head are c.requires (sym c.top.ensures
+    ∙ c.in-App.is) in
     rw (is, ← c.args-arg-items.ensures)
     (ap (λ ts. term.App c.in-App.head ts) (c.places.invariant
-    ∙ ap (λ ns. map (term_of c.args.self.now) ns) (take_all c.places.arg-index c.args-arg-items.result.now c.places-test.false)))
+    ∙ ap (λ ns. map (term_of c.args.self.now) ns) (take_all c.places.arg-index
+    c.args-arg-items.result.now c.places-test.false)))
