@@ -1,181 +1,232 @@
 -- A loop that joins classes until they are closed.
-use Rattle.std.proofs.Common.{◌≡◌, ℕ, zero, suc, ◌<◌, ◌≤◌, List, [], ◌∷◌, ◌⊎◌, inl, inr, length, get_or, map, min, max, sum, All, refl, ap, sym, subst, ◌∙◌, arith}
-use Rattle.std.proofs.lemmas.Bool.{cases_order}
-use Rattle.std.proofs.lemmas.Bool.Decides.{nat_tests}
-use Rattle.std.proofs.lemmas.List.Elements.{All-get_or, All-weaker}
-use Rattle.std.proofs.lemmas.List.Sums.{sum_by-cons}
-use Rattle.std.proofs.lemmas.List.{get_or-map}
-use Rattle.esc_nodes.specs.Nodes.{Shape}
-use Rattle.esc_egraph.specs.Graph.{Graph, IsGraph}
+use Rattle.std.proofs.Common.{◌≡◌, ℕ, ◌<◌, List, [], ◌∷◌, ◌++◌, inl, inr, length, refl, ap, sym, subst, ◌∙◌, append_assoc, arith}
+use Rattle.std.proofs.lemmas.List.{append-nil}
+use Rattle.std.proofs.lemmas.List.Elements.{All-weaker}
+use Rattle.esc_nodes.specs.Nodes.{Shape, shape_at}
+use Rattle.esc_union.specs.Merges.{SameClass, class_number}
+use Rattle.esc_union.proofs.Numbers.{same_more, pair_joined}
+use Rattle.esc_egraph.specs.Graph.{Graph, IsGraph, Adds, number_of}
 use Rattle.esc_egraph.specs.GraphUndo.{graph_undo, graph_back, CanGoBack}
-use Rattle.esc_classes.specs.Classes.{SameClass}
-use Rattle.esc_egraph.specs.Congruence.{AreAlike, IsClosed, Meets, IsLeast, EqualWith}
-use Rattle.esc_egraph.specs.Passes.{IsUnjoined, moved, united}
+use Rattle.esc_egraph.specs.Congruence.{AreAlike, IsCongruence, Meets, IsLeast, EqualWith}
+use Rattle.esc_egraph.specs.ClosingInside.{IsClosing}
+use Rattle.esc_egraph.specs.PassesInside.{IsUnited}
 use Rattle.esc_egraph.specs.declared.record.EgraphRec.{EgraphRec}
+use Rattle.esc_egraph.proofs.Joining.{merged_within, alike_within}
 use Rattle.esc_trail.specs.Undo.{Notes}
 use Rattle.esc_trail.proofs.Lawful.{equal_is_lawful}
 use Rattle.esc_trail.proofs.Noting.{notes_both, notes_nothing}
 
--- the classes of the nodes have grown only as they must, and each change is noted
-pub record Closing {Whole : Type 0} (carry : EgraphRec → Whole) (entry : Graph) (first : List Whole) (now : Graph) (trail : List Whole) : Type 0 where
-  pub others : now ≡ record entry { classes = now.classes }
-  pub meets : Meets entry.nodes (SameClass entry.classes) now.classes
-  pub finest : (rest : List ℕ) → length rest ≡ length entry.nodes → IsClosed entry.nodes rest →
-      Meets entry.nodes (SameClass entry.classes) rest → Meets entry.nodes (SameClass now.classes) rest
-  pub undo : Notes graph_undo carry first trail entry now
-
-pub Closing-starts : {Whole : Type 0} (carry : EgraphRec → Whole) (entry : Graph) (trail : List Whole) →
-    Closing carry entry trail entry trail
-Closing-starts carry entry trail = record {
+pub IsClosing-starts : {Whole : Type 0} (carry : EgraphRec → Whole) (entry : Graph)
+    (trail : List Whole) →
+    IsClosing carry entry trail entry trail
+IsClosing-starts carry entry trail = record {
   others = refl;
+  more = ([], sym (append-nil entry.merges));
   meets = λ a b l m same. same;
-  finest = λ rest long closed meets. meets;
+  finest = λ rest closed meets. meets;
   undo = notes_nothing graph_undo carry trail trail entry entry refl refl;
 }
 
--- the class numbers of two nodes meet only where they were one, or were those that are united
-pub moved_meet : (a b x y : ℕ) → moved (max a b) (min a b) x ≡ moved (max a b) (min a b) y →
-    (x ≡ y) ⊎ (((x ≡ a) ⊎ (x ≡ b)) × ((y ≡ a) ⊎ (y ≡ b)))
-moved_meet a b x y e = grind (arith, nat_tests)
+pub adds_both : (first middle last : List (ℕ × ℕ)) → Adds first middle → Adds middle last
+    → Adds first last
+adds_both first middle last a b =
+    (a.0 ++ b.0, b.1 ∙ (ap (λ ms. ms ++ b.0) a.1 ∙ append_assoc first a.0 b.0))
 
-pub moved_pair : (x y : ℕ) → moved (max x y) (min x y) x ≡ moved (max x y) (min x y) y
-moved_pair x y = grind (arith, nat_tests)
+-- the nodes of a pair are nodes, and stand in one class wherever the classes are closed and coarser
+pub record IsForced (nodes : List Shape) (number : ℕ → ℕ) (m : ℕ × ℕ) : Type 0 where
+  pub there : m.0 < length nodes
+  pub there_too : m.1 < length nodes
+  pub forced : (rest : ℕ → ℕ) → IsCongruence nodes rest → Meets nodes (SameClass number) rest
+      → SameClass rest m.0 m.1
 
-pub moved_le : (x y z : ℕ) → moved (max x y) (min x y) z ≤ z
-moved_le x y z = grind (arith, nat_tests)
+pub alike_forced : (g : Graph) (a b : ℕ) → IsGraph g → a < length g.nodes → b < length g.nodes →
+    AreAlike (number_of g) (shape_at g.nodes a) (shape_at g.nodes b)
+    → IsForced g.nodes (number_of g) (a, b)
+alike_forced g a b is al bl alike = record {
+  there = al;
+  there_too = bl;
+  forced = λ rest closed coarser. closed a b al bl
+      (alike_within (length g.nodes) (number_of g) rest _ _ coarser
+      (All-weaker (λ x. x < a) (λ x. x < length g.nodes) (λ x l. omega (arith, l, al)) _
+      (is.terms.older a al))
+      (All-weaker (λ x. x < b) (λ x. x < length g.nodes) (λ x l. omega (arith, l, bl)) _
+      (is.terms.older b bl))
+      alike);
+}
 
-pub moved_lt : (x y : ℕ) → x < y → moved (max x y) (min x y) y < y
-moved_lt x y l = grind (arith, nat_tests)
-
-pub moved_gt : (x y : ℕ) → y < x → moved (max x y) (min x y) x < x
-moved_gt x y l = grind (arith, nat_tests)
-
-sum_map_le : (f : ℕ → ℕ) → ((x : ℕ) → f x ≤ x) → (xs : List ℕ) → sum (map f xs) ≤ sum xs
-sum_map_le f le [] = omega arith
-sum_map_le f le (x ∷ xs) =
-    omega (arith, le x, sum_map_le f le xs, sum_by-cons (λ n. n) x xs, sum_by-cons (λ n. n) (f x) (map f xs))
-
--- one number falls and none rises
-sum_map_lt : (f : ℕ → ℕ) → ((x : ℕ) → f x ≤ x) → (xs : List ℕ) (k : ℕ) → k < length xs → f (get_or xs k 0) < get_or xs k 0 →
-    sum (map f xs) < sum xs
-sum_map_lt f le [] k l falls = absurd (omega arith)
-sum_map_lt f le (x ∷ xs) zero l falls =
-    omega (arith, falls, sum_map_le f le xs, sum_by-cons (λ n. n) x xs, sum_by-cons (λ n. n) (f x) (map f xs))
-sum_map_lt f le (x ∷ xs) (suc k) l falls =
-    omega (arith, le x, sum_map_lt f le xs k (omega arith) falls, sum_by-cons (λ n. n) x xs, sum_by-cons (λ n. n) (f x) (map f xs))
-
--- joining two classes lowers the sum of the class numbers
-pub sum-united : (cs : List ℕ) (a b : ℕ) → a < length cs → b < length cs → (SameClass cs a b → ⊥) → sum (united cs a b) < sum cs
-sum-united cs a b al bl apart =
-    elim (cases_order (get_or cs a 0) (get_or cs b 0)) [
-      | inl eq ↦ absurd (apart eq)
-      | inr (inl lt) ↦ sum_map_lt _ (moved_le _ _) cs b bl (moved_lt _ _ lt)
-      | inr (inr gt) ↦ sum_map_lt _ (moved_le _ _) cs a al (moved_gt _ _ gt)
-    ]
-
-pub same_united : (cs : List ℕ) (a b x y : ℕ) → x < length cs → y < length cs → SameClass cs x y → SameClass (united cs a b) x y
-same_united cs a b x y xl yl same =
-    let f : ℕ → ℕ = moved (max (get_or cs a 0) (get_or cs b 0)) (min (get_or cs a 0) (get_or cs b 0)) in
-    get_or-map f cs x 0 0 xl ∙ (ap f same ∙ sym (get_or-map f cs y 0 0 yl))
-
-pub united_pair : (cs : List ℕ) (a b : ℕ) → a < length cs → b < length cs → SameClass (united cs a b) a b
-united_pair cs a b al bl =
-    let f : ℕ → ℕ = moved (max (get_or cs a 0) (get_or cs b 0)) (min (get_or cs a 0) (get_or cs b 0)) in
-    get_or-map f cs a 0 0 al ∙ (moved_pair (get_or cs a 0) (get_or cs b 0) ∙ sym (get_or-map f cs b 0 0 bl))
-
-module _ (nodes : List Shape) (cs rest : List ℕ) (a b : ℕ) (long : length cs ≡ length nodes)
-    (al : a < length nodes) (bl : b < length nodes)
-    (meets : Meets nodes (SameClass cs) rest) (pair : SameClass rest a b) where
-  -- a node that stood in the class of `a` or of `b` stands with `a` in the rest
-  near : (x : ℕ) → x < length nodes → (SameClass cs x a) ⊎ (SameClass cs x b) → SameClass rest x a
-  near x xl (inl e) = meets x a xl al e
-  near x xl (inr e) = meets x b xl bl e ∙ sym pair
-
-  within : (x y : ℕ) → x < length nodes → y < length nodes →
-      (SameClass cs x y) ⊎ (((SameClass cs x a) ⊎ (SameClass cs x b)) × ((SameClass cs y a) ⊎ (SameClass cs y b))) → SameClass rest x y
-  within x y xl yl (inl e) = meets x y xl yl e
-  within x y xl yl (inr (p, q)) = near x xl p ∙ sym (near y yl q)
-
-  -- classes that are coarser and have the pair in one are coarser than the united ones
-  pub united_within : Meets nodes (SameClass (united cs a b)) rest
-  united_within x y xl yl e =
-      let f : ℕ → ℕ = moved (max (get_or cs a 0) (get_or cs b 0)) (min (get_or cs a 0) (get_or cs b 0)) in
-      let xc : x < length cs = omega arith in
-      let yc : y < length cs = omega arith in
-      within x y xl yl (moved_meet (get_or cs a 0) (get_or cs b 0) (get_or cs x 0) (get_or cs y 0)
-      (sym (get_or-map f cs x 0 0 xc) ∙ (e ∙ get_or-map f cs y 0 0 yc)))
-
--- terms that are alike stay so in coarser classes
-pub alike_within : (nodes : List Shape) (cs rest : List ℕ) (s t : Shape) → Meets nodes (SameClass cs) rest →
-    All (λ a. a < length nodes) s.args → All (λ a. a < length nodes) t.args → AreAlike cs s t → AreAlike rest s t
-alike_within nodes cs rest s t meets s_in t_in alike = record {
-  top = alike.top;
-  args = record {
-    lengths = alike.args.lengths;
-    places = λ k l. meets _ _ (All-get_or (λ a. a < length nodes) s.args k 0 l s_in)
-        (All-get_or (λ a. a < length nodes) t.args k 0 (omega (arith, alike.args.lengths)) t_in) (alike.args.places k l);
-  };
+pub forced_back : (nodes : List Shape) (number : ℕ → ℕ) (a b : ℕ) → IsForced nodes number (a, b)
+    → IsForced nodes number (b, a)
+forced_back nodes number a b f = record {
+  there = f.there_too;
+  there_too = f.there;
+  forced = λ rest closed coarser. sym (f.forced rest closed coarser);
 }
 
 module _ {Whole : Type 0} (carry : EgraphRec → Whole) (entry : Graph) (first : List Whole) where
-  -- the step, where the graph differs from that at entry in its classes alone
-  joins : (cs : List ℕ) (trail after : List Whole) (a b : ℕ) →
-      Closing carry entry first (record entry { classes = cs }) trail → IsGraph (record entry { classes = cs }) →
-      IsUnjoined (record entry { classes = cs }) a b →
-      Notes graph_undo carry trail after (record entry { classes = cs }) (record entry { classes = united cs a b }) →
-      Closing carry entry first (record entry { classes = united cs a b }) after
-  joins cs trail after a b c is pair undo = record {
+  -- the step, where the graph differs from that at entry in its merges alone
+  joins : (ms : List (ℕ × ℕ)) (trail after : List Whole) (m : ℕ × ℕ) →
+      IsClosing carry entry first (record entry { merges = ms }) trail
+      → IsForced entry.nodes (class_number ms) m →
+      Notes graph_undo carry trail after (record entry { merges = ms })
+      (record entry { merges = ms ++ (m ∷ []) }) →
+      IsClosing carry entry first (record entry { merges = ms ++ (m ∷ []) }) after
+  joins ms trail after m c force undo = record {
     others = refl;
-    meets = λ x y xl yl same. same_united cs a b x y (omega (arith, is.classed)) (omega (arith, is.classed)) (c.meets x y xl yl same);
-    finest = λ rest long closed meets.
-        let coarser : Meets entry.nodes (SameClass cs) rest = c.finest rest long closed meets in
-        let bl : b < length entry.nodes = omega (arith, pair.before, pair.there) in
-        united_within entry.nodes cs rest a b is.classed pair.there bl coarser
-        (closed a b pair.there bl (alike_within entry.nodes cs rest _ _ coarser
-        (All-weaker (λ x. x < a) (λ x. x < length entry.nodes) (λ x l. omega (arith, pair.there)) _ (is.terms.older a pair.there))
-        (All-weaker (λ x. x < b) (λ x. x < length entry.nodes) (λ x l. omega (arith, bl)) _ (is.terms.older b bl))
-        pair.alike));
-    undo = notes_both graph_undo (equal_is_lawful graph_back CanGoBack) carry first trail after entry _ _ c.undo undo;
+    more = adds_both entry.merges ms (ms ++ (m ∷ [])) c.more (m ∷ [], refl);
+    meets = λ x y xl yl same. same_more ms m x y (c.meets x y xl yl same);
+    finest = λ rest closed meets.
+        let coarser : Meets entry.nodes (SameClass (class_number ms)) rest = c.finest rest closed
+        meets in
+        merged_within entry.nodes ms m rest force.there force.there_too coarser
+        (force.forced rest closed coarser);
+    undo = notes_both graph_undo (equal_is_lawful graph_back CanGoBack) carry first trail after
+        entry _ _ c.undo undo;
   }
 
-  pub Closing-joins : (now exit : Graph) (trail after : List Whole) (a b : ℕ) →
-      Closing carry entry first now trail → IsGraph now → IsUnjoined now a b →
-      exit ≡ record now { classes = united now.classes a b } → Notes graph_undo carry trail after now exit →
-      Closing carry entry first exit after
-  Closing-joins now exit trail after a b c is pair e undo =
-      let same : now ≡ record entry { classes = now.classes } = c.others in
-      let left : exit ≡ record entry { classes = united now.classes a b } =
-      e ∙ ap (λ (h : Graph). record h { classes = united now.classes a b }) same in
-      subst (λ g. Closing carry entry first g after) (sym left)
-      (joins now.classes trail after a b
-      (subst (λ g. Closing carry entry first g trail) same c)
-      (subst IsGraph same is)
-      (subst (λ g. IsUnjoined g a b) same pair)
-      (subst (λ g. Notes graph_undo carry trail after g (record entry { classes = united now.classes a b })) same
+  merges_one : (now exit : Graph) (trail after : List Whole) (m : ℕ × ℕ) →
+      IsClosing carry entry first now trail → IsForced now.nodes (number_of now) m →
+      exit ≡ record now { merges = now.merges ++ (m ∷ []) }
+      → Notes graph_undo carry trail after now exit →
+      IsClosing carry entry first exit after
+  merges_one now exit trail after m c force e undo =
+      let same : now ≡ record entry { merges = now.merges } = c.others in
+      let left : exit ≡ record entry { merges = now.merges ++ (m ∷ []) } =
+      e ∙ ap (λ (h : Graph). record h { merges = now.merges ++ (m ∷ []) }) same in
+      subst (λ g. IsClosing carry entry first g after) (sym left)
+      (joins now.merges trail after m
+      (subst (λ g. IsClosing carry entry first g trail) same c)
+      (subst (λ (g : Graph). IsForced g.nodes (class_number now.merges) m) same force)
+      (subst (λ g. Notes graph_undo carry trail after g
+      (record entry { merges = now.merges ++ (m ∷ []) })) same
       (subst (λ g. Notes graph_undo carry trail after now g) left undo)))
 
-  pub Closing-done : (now : Graph) (trail : List Whole) → Closing carry entry first now trail → IsClosed now.nodes now.classes →
-      IsLeast entry.nodes (SameClass entry.classes) now.classes
-  Closing-done now trail c closed = record {
-    closed = subst (λ nodes. IsClosed nodes now.classes) (ap (λ (h : Graph). h.nodes) c.others) closed;
+  pub IsClosing-joins : (now exit : Graph) (trail after : List Whole) (a b : ℕ) →
+      IsClosing carry entry first now trail → IsForced now.nodes (number_of now) (a, b) →
+      IsUnited now exit a b → Notes graph_undo carry trail after now exit →
+      IsClosing carry entry first exit after
+  IsClosing-joins now exit trail after a b c force (inl e) undo = merges_one now exit trail after
+      (a, b) c force e undo
+  IsClosing-joins now exit trail after a b c force (inr e) undo =
+      merges_one now exit trail after (b, a) c (forced_back now.nodes (number_of now) a b force) e
+      undo
+
+  pub IsClosing-done : (now : Graph) (trail : List Whole) → IsClosing carry entry first now trail
+      → IsCongruence now.nodes (number_of now) →
+      IsLeast entry.nodes (SameClass (number_of entry)) (number_of now)
+  IsClosing-done now trail c closed = record {
+    closed = subst (λ nodes. IsCongruence nodes (number_of now))
+        (ap (λ (h : Graph). h.nodes) c.others) closed;
     meets = c.meets;
     finest = c.finest;
   }
 
-meets_with : (nodes : List Shape) (cs new : List ℕ) (a b : ℕ) → length cs ≡ length nodes → a < length nodes → b < length nodes →
-    Meets nodes (SameClass (united cs a b)) new → Meets nodes (EqualWith cs a b) new
-meets_with nodes cs new a b long al bl meets x y xl yl (inl same) =
-    meets x y xl yl (same_united cs a b x y (omega arith) (omega arith) same)
-meets_with nodes cs new a b long al bl meets x y xl yl (inr (p, q)) =
-    rw (p, q) (meets a b al bl (united_pair cs a b (omega arith) (omega arith)))
-
--- the least classes over the united ones are the least over the old ones with the new pair
-pub least_with : (nodes : List Shape) (cs new : List ℕ) (a b : ℕ) → length cs ≡ length nodes → a < length nodes → b < length nodes →
-    IsLeast nodes (SameClass (united cs a b)) new → IsLeast nodes (EqualWith cs a b) new
-least_with nodes cs new a b long al bl least = record {
+-- the least classes over those that the pair was merged in are the least over the old ones with the
+-- new pair
+least_merged : (nodes : List Shape) (ms : List (ℕ × ℕ)) (m : ℕ × ℕ) (a b : ℕ) (new : ℕ → ℕ) → m.0
+    < length nodes → m.1 < length nodes →
+    a < length nodes → b < length nodes →
+    SameClass (class_number (ms ++ (m ∷ []))) a b → ((rest : ℕ → ℕ) → SameClass rest a b
+    → SameClass rest m.0 m.1) →
+    IsLeast nodes (SameClass (class_number (ms ++ (m ∷ [])))) new
+    → IsLeast nodes (EqualWith (class_number ms) a b) new
+least_merged nodes ms m a b new ml nl al bl joined turned least = record {
   closed = least.closed;
-  meets = meets_with nodes cs new a b long al bl least.meets;
-  finest = λ rest long' closed meets.
-      least.finest rest long' closed (united_within nodes cs rest a b long al bl
-      (λ x y xl yl same. meets x y xl yl (inl same)) (meets a b al bl (inr (refl, refl))));
+  meets = λ x y xl yl equal. elim equal [
+    | inl same ↦ least.meets x y xl yl (same_more ms m x y same)
+    | inr pq ↦ rw (pq.0, pq.1) (least.meets a b al bl joined)
+  ];
+  finest = λ rest closed meets.
+      least.finest rest closed (merged_within nodes ms m rest ml nl
+      (λ x y xl yl same. meets x y xl yl (inl same))
+      (turned rest (meets a b al bl (inr (refl, refl)))));
 }
+
+pub least_united : (old united : Graph) (a b : ℕ) (new : ℕ → ℕ) → a < length old.nodes → b
+    < length old.nodes → IsUnited old united a b →
+    IsLeast united.nodes (SameClass (number_of united)) new
+    → IsLeast old.nodes (EqualWith (number_of old) a b) new
+least_united old united a b new al bl (inl e) least =
+    least_merged old.nodes old.merges (a, b) a b new al bl al bl (pair_joined old.merges (a, b))
+    (λ rest same. same)
+    (subst (λ (h : Graph). IsLeast h.nodes (SameClass (number_of h)) new) e least)
+least_united old united a b new al bl (inr e) least =
+    least_merged old.nodes old.merges (b, a) a b new bl al al bl
+    (sym (pair_joined old.merges (b, a))) (λ rest same. sym same)
+    (subst (λ (h : Graph). IsLeast h.nodes (SameClass (number_of h)) new) e least)
+
+-- closed classes where the pair stands in one are the least with it
+pub least_same : (nodes : List Shape) (number : ℕ → ℕ) (a b : ℕ) → SameClass number a b
+    → IsCongruence nodes number →
+    IsLeast nodes (EqualWith number a b) number
+least_same nodes number a b same closed = record {
+  closed = closed;
+  meets = λ x y xl yl equal. elim equal [
+    | inl one ↦ one
+    | inr pq ↦ rw (pq.0, pq.1) same
+  ];
+  finest = λ rest closed' meets x y xl yl one. meets x y xl yl (inl one);
+}
+
+-- ---- one change after another
+
+pub IsClosing-both : {Whole : Type 0} (carry : EgraphRec → Whole) (entry middle exit : Graph)
+    (first second third : List Whole) →
+    IsClosing carry entry first middle second → IsClosing carry middle second exit third
+    → IsClosing carry entry first exit third
+IsClosing-both carry entry middle exit first second third a b =
+    let nodes : middle.nodes ≡ entry.nodes = ap (λ (h : Graph). h.nodes) a.others in
+    record {
+      others = b.others ∙ ap (λ (h : Graph). record h { merges = exit.merges }) a.others;
+      more = adds_both entry.merges middle.merges exit.merges a.more b.more;
+      meets = λ x y xl yl same. subst (λ ns. Meets ns (SameClass (number_of middle))
+          (number_of exit)) nodes b.meets x y xl yl (a.meets x y xl yl same);
+      finest = λ rest closed meets.
+          subst (λ ns. Meets ns (SameClass (number_of exit)) rest) nodes
+          (b.finest rest (subst (λ ns. IsCongruence ns rest) (sym nodes) closed)
+          (subst (λ ns. Meets ns (SameClass (number_of middle)) rest) (sym nodes)
+          (a.finest rest closed meets)));
+      undo = notes_both graph_undo (equal_is_lawful graph_back CanGoBack) carry first second third
+          entry middle exit a.undo b.undo;
+    }
+
+-- the graph is as it was
+pub IsClosing-same : {Whole : Type 0} (carry : EgraphRec → Whole) (entry exit : Graph)
+    (first second : List Whole) → exit ≡ entry → second ≡ first →
+    IsClosing carry entry first exit second
+IsClosing-same carry entry exit first second e f =
+    rw (e, f) (IsClosing-starts carry entry first)
+
+-- the graph is as it was, and what is noted takes nothing back
+pub IsClosing-kept : {Whole : Type 0} (carry : EgraphRec → Whole) (entry exit : Graph)
+    (first second : List Whole) → exit ≡ entry →
+    Notes graph_undo carry first second entry exit → IsClosing carry entry first exit second
+IsClosing-kept carry entry exit first second e undo = record {
+  others = e ∙ ap (λ (h : Graph). record entry { merges = h.merges }) (sym e);
+  more = ([], ap (λ (h : Graph). h.merges) e ∙ sym (append-nil entry.merges));
+  meets = λ a b l m same. subst (λ (h : Graph). SameClass (number_of h) a b) (sym e) same;
+  finest = λ rest closed meets. subst (λ (h : Graph). Meets entry.nodes (SameClass (number_of h))
+      rest) (sym e) meets;
+  undo = undo;
+}
+
+-- ---- two classes are united, and the classes are closed
+
+pub others_united : (old united new : Graph) (a b : ℕ) → IsUnited old united a b → new
+    ≡ record united { merges = new.merges } → new ≡ record old { merges = new.merges }
+others_united old united new a b (inl e) others = others
+    ∙ ap (λ (h : Graph). record h { merges = new.merges }) e
+others_united old united new a b (inr e) others = others
+    ∙ ap (λ (h : Graph). record h { merges = new.merges }) e
+
+pub adds_united : (old united new : Graph) (a b : ℕ) → IsUnited old united a b
+    → Adds united.merges new.merges → Adds old.merges new.merges
+adds_united old united new a b (inl e) more = adds_both old.merges united.merges new.merges (
+  (a, b)
+      ∷ [],
+  ap (λ (h : Graph). h.merges) e,
+) more
+adds_united old united new a b (inr e) more = adds_both old.merges united.merges new.merges (
+  (b, a)
+      ∷ [],
+  ap (λ (h : Graph). h.merges) e,
+) more

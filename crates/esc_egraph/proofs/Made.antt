@@ -1,148 +1,153 @@
 -- A node more, in the class of the nodes that are alike to it.
-use Rattle.std.proofs.Common.{◌≡◌, ℕ, ◌<◌, ◌≤◌, List, [], ◌∷◌, ◌++◌, ◌⊎◌, inl, inr, length, get_or, All, ap, sym, subst, ◌∙◌, arith}
+use Rattle.std.proofs.Common.{◌≡◌, ℕ, ◌+◌, ◌<◌, ◌≤◌, List, [], ◌∷◌, ◌++◌, ◌⊎◌, inl, inr, length, All, ap, sym, subst, ◌∙◌, arith}
 use Rattle.std.proofs.lemmas.Bool.{cases_lt}
 use Rattle.std.proofs.lemmas.List.{get_or_append_left, get_or_at, length_push}
-use Rattle.std.proofs.lemmas.List.Elements.{All-get_or, All-weaker}
-use Rattle.esc_nodes.specs.Nodes.{Shape, shape_at}
-use Rattle.esc_egraph.specs.Graph.{Graph, IsGraph}
-use Rattle.esc_classes.specs.Classes.{SameClass}
-use Rattle.esc_egraph.specs.Congruence.{AreAlike, IsClosed, Meets, IsLeast, SameAmong}
-use Rattle.esc_egraph.specs.Passes.{IsChosen}
+use Rattle.std.proofs.lemmas.List.Elements.{All-weaker}
+use Rattle.esc_nodes.specs.Nodes.{Shape, shape_at, AreTerms}
+use Rattle.esc_union.specs.Merges.{SameClass, AreMerges, class_number}
+use Rattle.esc_union.proofs.Numbers.{class_number-beyond, class_number-more, moved_other, new_nodes_stand_alone, pair_joined}
+use Rattle.esc_egraph.specs.Congruence.{AreAlike, IsCongruence, Meets, IsLeast, SameAmong}
+use Rattle.esc_egraph.proofs.Joining.{alike_within, alike_back, alike_on}
 
--- arguments and classes that agree on the nodes there are
-pub alike_moved : (cs ds : List ℕ) (n : ℕ) (s t : Shape) → ((a b : ℕ) → a < n → b < n → SameClass cs a b → SameClass ds a b) →
-    All (λ a. a < n) s.args → All (λ a. a < n) t.args → AreAlike cs s t → AreAlike ds s t
-alike_moved cs ds n s t moves s_in t_in alike = record {
-  top = alike.top;
-  args = record {
-    lengths = alike.args.lengths;
-    places = λ k l. moves _ _ (All-get_or (λ a. a < n) s.args k 0 l s_in)
-        (All-get_or (λ a. a < n) t.args k 0 (omega (arith, alike.args.lengths)) t_in) (alike.args.places k l);
-  };
+-- the new node stands with a node that is alike to it, or alone where none is
+abbrev pub IsPlaced : List Shape → (ℕ → ℕ) → (ℕ → ℕ) → Shape → Type 0
+IsPlaced nodes old new s =
+    ((k : ℕ) × (k < length nodes) × AreAlike old (shape_at nodes k) s
+    × SameClass new (length nodes) k)
+    ⊎ (((k : ℕ) → k < length nodes → AreAlike old (shape_at nodes k) s → ⊥)
+    × ((k : ℕ) → k < length nodes → SameClass new (length nodes) k → ⊥))
+
+-- the old nodes keep their classes, and the new one is placed
+pub record IsExtended (nodes : List Shape) (old new : ℕ → ℕ) (s : Shape) : Type 0 where
+  pub stay : (a b : ℕ) → a < length nodes → b < length nodes → SameClass old a b → SameClass new a b
+  pub kept : (a b : ℕ) → a < length nodes → b < length nodes → SameClass new a b → SameClass old a b
+  pub placed : IsPlaced nodes old new s
+
+pub extended_alone : (nodes : List Shape) (ms : List (ℕ × ℕ)) (s : Shape)
+    → AreMerges (length nodes) ms →
+    ((k : ℕ) → k < length nodes → AreAlike (class_number ms) (shape_at nodes k) s → ⊥) →
+    IsExtended nodes (class_number ms) (class_number ms) s
+extended_alone nodes ms s are none = record {
+  stay = λ a b al bl e. e;
+  kept = λ a b al bl e. e;
+  placed = inr (none, λ k l e. new_nodes_stand_alone ms (length nodes) are.there k l (sym e));
 }
 
-pub alike_back : (cs : List ℕ) (s t : Shape) → AreAlike cs s t → AreAlike cs t s
-alike_back cs s t alike = record {
-  top = sym alike.top;
-  args = record {
-    lengths = sym alike.args.lengths;
-    places = λ k l. sym (alike.args.places k (omega (arith, alike.args.lengths)));
-  };
-}
+pub extended_joined : (nodes : List Shape) (ms : List (ℕ × ℕ)) (s : Shape) (k : ℕ)
+    → AreMerges (length nodes) ms → k < length nodes →
+    AreAlike (class_number ms) (shape_at nodes k) s →
+    IsExtended nodes (class_number ms) (class_number (ms ++ ((length nodes, k) ∷ []))) s
+extended_joined nodes ms s k are kl alike =
+    let beyond = class_number-beyond (length nodes) ms are.there in
+    let own : class_number ms (length nodes) ≡ length nodes = beyond.1 (length nodes) (omega arith)
+    in
+    let as_before : (a : ℕ) → a < length nodes → class_number (ms ++ ((length nodes, k) ∷ [])) a
+    ≡ class_number ms a =
+    λ a l. class_number-more ms (length nodes, k) a
+    ∙ moved_other (class_number ms (length nodes)) (class_number ms k) (class_number ms a)
+    (λ e. omega (arith, e, own, beyond.0 a l)) in
+    record {
+      stay = λ a b al bl e. as_before a al ∙ (e ∙ sym (as_before b bl));
+      kept = λ a b al bl e. sym (as_before a al) ∙ (e ∙ as_before b bl);
+      placed = inl (k, kl, alike, pair_joined ms (length nodes, k));
+    }
 
-pub alike_on : (cs : List ℕ) (s t u : Shape) → AreAlike cs s t → AreAlike cs t u → AreAlike cs s u
-alike_on cs s t u a b = record {
-  top = a.top ∙ b.top;
-  args = record {
-    lengths = a.args.lengths ∙ b.args.lengths;
-    places = λ k l. a.args.places k l ∙ b.args.places k (omega (arith, a.args.lengths));
-  };
-}
+module _ (nodes : List Shape) (are : AreTerms nodes) (old new : ℕ
+    → ℕ) (closed : IsCongruence nodes old)
+    (s : Shape)
+    (args_in : All (λ a. a < length nodes) s.args) (ext : IsExtended nodes old new s) where
+  old_term : (k : ℕ) → k < length nodes → shape_at (nodes ++ (s ∷ [])) k ≡ shape_at nodes k
+  old_term k l = get_or_append_left nodes (s ∷ []) _ k l
 
-module _ (g : Graph) (is : IsGraph g) (closed : IsClosed g.nodes g.classes) (term : Shape) (class : ℕ)
-    (args_in : All (λ a. a < length g.nodes) term.args) (chosen : IsChosen g term class) where
-  old_term : (k : ℕ) → k < length g.nodes → shape_at (g.nodes ++ (term ∷ [])) k ≡ shape_at g.nodes k
-  old_term k l = get_or_append_left g.nodes (term ∷ []) _ k l
+  new_term : (k : ℕ) → k ≡ length nodes → shape_at (nodes ++ (s ∷ [])) k ≡ s
+  new_term k e = get_or_at nodes s [] _ k (sym e)
 
-  new_term : (k : ℕ) → k ≡ length g.nodes → shape_at (g.nodes ++ (term ∷ [])) k ≡ term
-  new_term k e = get_or_at g.nodes term [] _ k (sym e)
+  args_of : (k : ℕ) → k < length nodes → All (λ a. a < length nodes) (shape_at nodes k).args
+  args_of k l = All-weaker (λ a. a < k) (λ a. a < length nodes) (λ a h. omega (arith, h, l)) _
+      (are.older k l)
 
-  old_class : (k : ℕ) → k < length g.nodes → get_or (g.classes ++ (class ∷ [])) k 0 ≡ get_or g.classes k 0
-  old_class k l = get_or_append_left g.classes (class ∷ []) 0 k (omega (arith, is.classed))
-
-  new_class : (k : ℕ) → k ≡ length g.nodes → get_or (g.classes ++ (class ∷ [])) k 0 ≡ class
-  new_class k e = get_or_at g.classes class [] 0 k (is.classed ∙ sym e)
-
-  same_old : (a b : ℕ) → a < length g.nodes → b < length g.nodes → SameClass (g.classes ++ (class ∷ [])) a b → SameClass g.classes a b
-  same_old a b al bl e = sym (old_class a al) ∙ (e ∙ old_class b bl)
-
-  same_new : (a b : ℕ) → a < length g.nodes → b < length g.nodes → SameClass g.classes a b → SameClass (g.classes ++ (class ∷ [])) a b
-  same_new a b al bl e = old_class a al ∙ (e ∙ sym (old_class b bl))
-
-  args_of : (k : ℕ) → k < length g.nodes → All (λ a. a < length g.nodes) (shape_at g.nodes k).args
-  args_of k l = All-weaker (λ a. a < k) (λ a. a < length g.nodes) (λ a h. omega arith) _ (is.terms.older k l)
+  to_old : (t u : Shape) → All (λ a. a < length nodes) t.args → All (λ a. a < length nodes) u.args
+      → AreAlike new t u → AreAlike old t u
+  to_old t u t_in u_in = alike_within (length nodes) new old t u ext.kept t_in u_in
 
   -- an old node that is alike to the new one stands in its class
-  joins_new : (b : ℕ) → b < length g.nodes → AreAlike g.classes (shape_at g.nodes b) term →
-      IsChosen g term class → get_or g.classes b 0 ≡ class
+  joins_new : (b : ℕ) → b < length nodes → AreAlike old (shape_at nodes b) s
+      → IsPlaced nodes old new s → SameClass new b (length nodes)
   joins_new b bl alike (inl (k, kl, found, e)) =
-      closed b k bl kl (alike_on g.classes _ term _ alike (alike_back g.classes _ term found)) ∙ sym e
-  joins_new b bl alike (inr (none, e)) = absurd (none b bl alike)
+      ext.stay b k bl kl (closed b k bl kl (alike_on old _ s _ alike (alike_back old _ s found)))
+      ∙ sym e
+  joins_new b bl alike (inr (none, apart)) = absurd (none b bl alike)
 
-  to_old : (s t : Shape) → All (λ a. a < length g.nodes) s.args → All (λ a. a < length g.nodes) t.args →
-      AreAlike (g.classes ++ (class ∷ [])) s t → AreAlike g.classes s t
-  to_old s t s_in t_in = alike_moved (g.classes ++ (class ∷ [])) g.classes (length g.nodes) s t same_old s_in t_in
-
-  closed_with : (a b : ℕ) → a < length g.nodes → b ≡ length g.nodes →
-      AreAlike (g.classes ++ (class ∷ [])) (shape_at (g.nodes ++ (term ∷ [])) a) (shape_at (g.nodes ++ (term ∷ [])) b) →
-      SameClass (g.classes ++ (class ∷ [])) a b
+  closed_with : (a b : ℕ) → a < length nodes → b ≡ length nodes →
+      AreAlike new (shape_at (nodes ++ (s ∷ [])) a) (shape_at (nodes ++ (s ∷ [])) b)
+      → SameClass new a b
   closed_with a b al last alike =
-      old_class a al ∙ (joins_new a al (to_old _ _ (args_of a al) args_in
-      (subst (λ t. AreAlike (g.classes ++ (class ∷ [])) (shape_at g.nodes a) t) (new_term b last)
-      (subst (λ s. AreAlike (g.classes ++ (class ∷ [])) s (shape_at (g.nodes ++ (term ∷ [])) b)) (old_term a al) alike))) chosen
-      ∙ sym (new_class b last))
+      joins_new a al (to_old _ _ (args_of a al) args_in
+      (subst (λ t. AreAlike new (shape_at nodes a) t) (new_term b last)
+      (subst (λ t. AreAlike new t (shape_at (nodes ++ (s ∷ [])) b)) (old_term a al) alike)))
+      ext.placed
+      ∙ ap new (sym last)
 
-  closed_at : (a b : ℕ) → (a < length g.nodes) ⊎ (length g.nodes ≤ a) → (b < length g.nodes) ⊎ (length g.nodes ≤ b) →
-      a < length (g.nodes ++ (term ∷ [])) → b < length (g.nodes ++ (term ∷ [])) →
-      AreAlike (g.classes ++ (class ∷ [])) (shape_at (g.nodes ++ (term ∷ [])) a) (shape_at (g.nodes ++ (term ∷ [])) b) →
-      SameClass (g.classes ++ (class ∷ [])) a b
+  closed_at : (a b : ℕ) → (a < length nodes) ⊎ (length nodes ≤ a) → (b < length nodes)
+      ⊎ (length nodes ≤ b) →
+      a < length (nodes ++ (s ∷ [])) → b < length (nodes ++ (s ∷ [])) →
+      AreAlike new (shape_at (nodes ++ (s ∷ [])) a) (shape_at (nodes ++ (s ∷ [])) b)
+      → SameClass new a b
   closed_at a b (inl p) (inl q) al bl alike =
-      same_new a b p q (closed a b p q (to_old _ _ (args_of a p) (args_of b q)
-      (subst (λ t. AreAlike (g.classes ++ (class ∷ [])) (shape_at g.nodes a) t) (old_term b q)
-      (subst (λ s. AreAlike (g.classes ++ (class ∷ [])) s (shape_at (g.nodes ++ (term ∷ [])) b)) (old_term a p) alike))))
-  closed_at a b (inl p) (inr q) al bl alike = closed_with a b p (omega (arith, length_push g.nodes term)) alike
-  closed_at a b (inr p) (inl q) al bl alike =
-      sym (closed_with b a q (omega (arith, length_push g.nodes term)) (alike_back _ _ _ alike))
+      ext.stay a b p q (closed a b p q (to_old _ _ (args_of a p) (args_of b q)
+      (subst (λ t. AreAlike new (shape_at nodes a) t) (old_term b q)
+      (subst (λ t. AreAlike new t (shape_at (nodes ++ (s ∷ [])) b)) (old_term a p) alike))))
+  closed_at a b (inl p) (inr q) al bl alike = closed_with a b p
+      (omega (arith, bl, q, length_push nodes s)) alike
+  closed_at a b (inr p) (inl q) al bl alike = sym (closed_with b a q
+      (omega (arith, al, p, length_push nodes s)) (alike_back _ _ _ alike))
   closed_at a b (inr p) (inr q) al bl alike =
-      new_class a (omega (arith, length_push g.nodes term)) ∙ sym (new_class b (omega (arith, length_push g.nodes term)))
+      let one : a ≡ b = omega (arith, al, bl, p, q, length_push nodes s) in ap new one
 
-  -- the new node stands in a coarser class with each old node of its class
-  stays_with : (rest : List ℕ) → IsClosed (g.nodes ++ (term ∷ [])) rest →
-      Meets (g.nodes ++ (term ∷ [])) (SameAmong (length g.nodes) g.classes) rest →
-      (a b : ℕ) → a ≡ length g.nodes → b < length g.nodes → class ≡ get_or g.classes b 0 → IsChosen g term class → SameClass rest a b
+  -- the new node stands in coarser classes with each old node of its class
+  stays_with : (rest : ℕ → ℕ) → IsCongruence (nodes ++ (s ∷ [])) rest
+      → Meets (nodes ++ (s ∷ [])) (SameAmong (length nodes) old) rest →
+      (a b : ℕ) → a ≡ length nodes → b < length nodes → SameClass new (length nodes) b
+      → IsPlaced nodes old new s → SameClass rest a b
   stays_with rest closed' meets a b last bl same (inl (k, kl, found, e)) =
-      let al : a < length (g.nodes ++ (term ∷ [])) = omega (arith, length_push g.nodes term) in
-      let kl' : k < length (g.nodes ++ (term ∷ [])) = omega (arith, length_push g.nodes term) in
-      let bl' : b < length (g.nodes ++ (term ∷ [])) = omega (arith, length_push g.nodes term) in
-      let alike : AreAlike rest (shape_at g.nodes k) term =
-      alike_moved g.classes rest (length g.nodes) _ term
-      (λ x y xl yl s. meets x y (omega (arith, length_push g.nodes term)) (omega (arith, length_push g.nodes term)) (xl, yl, s))
+      let more : length (nodes ++ (s ∷ [])) ≡ length nodes + 1 = length_push nodes s in
+      let al : a < length (nodes ++ (s ∷ [])) = omega (arith, more, last) in
+      let kl' : k < length (nodes ++ (s ∷ [])) = omega (arith, more, kl) in
+      let bl' : b < length (nodes ++ (s ∷ [])) = omega (arith, more, bl) in
+      let alike : AreAlike rest (shape_at nodes k) s =
+      alike_within (length nodes) old rest _ s
+      (λ x y xl yl one. meets x y (omega (arith, more, xl)) (omega (arith, more, yl)) (xl, yl, one))
       (args_of k kl) args_in found in
       sym (closed' k a kl' al
-      (subst (λ t. AreAlike rest (shape_at (g.nodes ++ (term ∷ [])) k) t) (sym (new_term a last))
-      (subst (λ s. AreAlike rest s term) (sym (old_term k kl)) alike)))
-      ∙ meets k b kl' bl' (kl, bl, sym e ∙ same)
-  stays_with rest closed' meets a b last bl same (inr (none, e)) =
-      absurd (omega (arith, is.lower b bl))
+      (subst (λ t. AreAlike rest (shape_at (nodes ++ (s ∷ [])) k) t) (sym (new_term a last))
+      (subst (λ t. AreAlike rest t s) (sym (old_term k kl)) alike)))
+      ∙ meets k b kl' bl' (kl, bl, ext.kept k b kl bl (sym e ∙ same))
+  stays_with rest closed' meets a b last bl same (inr (none, apart)) = absurd (apart b bl same)
 
-  finest_at : (rest : List ℕ) → IsClosed (g.nodes ++ (term ∷ [])) rest →
-      Meets (g.nodes ++ (term ∷ [])) (SameAmong (length g.nodes) g.classes) rest →
-      (a b : ℕ) → (a < length g.nodes) ⊎ (length g.nodes ≤ a) → (b < length g.nodes) ⊎ (length g.nodes ≤ b) →
-      a < length (g.nodes ++ (term ∷ [])) → b < length (g.nodes ++ (term ∷ [])) →
-      SameClass (g.classes ++ (class ∷ [])) a b → SameClass rest a b
-  finest_at rest closed' meets a b (inl p) (inl q) al bl same = meets a b al bl (p, q, same_old a b p q same)
+  finest_at : (rest : ℕ → ℕ) → IsCongruence (nodes ++ (s ∷ [])) rest
+      → Meets (nodes ++ (s ∷ [])) (SameAmong (length nodes) old) rest →
+      (a b : ℕ) → (a < length nodes) ⊎ (length nodes ≤ a) → (b < length nodes)
+      ⊎ (length nodes ≤ b) →
+      a < length (nodes ++ (s ∷ [])) → b < length (nodes ++ (s ∷ [])) → SameClass new a b
+      → SameClass rest a b
+  finest_at rest closed' meets a b (inl p) (inl q) al bl same = meets a b al bl
+      (p, q, ext.kept a b p q same)
   finest_at rest closed' meets a b (inr p) (inl q) al bl same =
-      let last : a ≡ length g.nodes = omega (arith, length_push g.nodes term) in
-      stays_with rest closed' meets a b last q (sym (new_class a last) ∙ (same ∙ old_class b q)) chosen
+      let last : a ≡ length nodes = omega (arith, al, p, length_push nodes s) in
+      stays_with rest closed' meets a b last q (ap new (sym last) ∙ same) ext.placed
   finest_at rest closed' meets a b (inl p) (inr q) al bl same =
-      let last : b ≡ length g.nodes = omega (arith, length_push g.nodes term) in
-      sym (stays_with rest closed' meets b a last p (sym (new_class b last) ∙ (sym same ∙ old_class a p)) chosen)
+      let last : b ≡ length nodes = omega (arith, bl, q, length_push nodes s) in
+      sym (stays_with rest closed' meets b a last p (ap new (sym last) ∙ sym same) ext.placed)
   finest_at rest closed' meets a b (inr p) (inr q) al bl same =
-      let equal : a ≡ b = omega (arith, length_push g.nodes term) in
-      ap (λ x. get_or rest x 0) equal
+      let equal : a ≡ b = omega (arith, al, bl, p, q, length_push nodes s) in
+      ap rest equal
 
-  pub made_is_least : IsLeast (g.nodes ++ (term ∷ [])) (SameAmong (length g.nodes) g.classes) (g.classes ++ (class ∷ []))
+  pub made_is_least : IsLeast (nodes ++ (s ∷ [])) (SameAmong (length nodes) old) new
   made_is_least = record {
-    closed = λ a b al bl alike. closed_at a b (cases_lt a (length g.nodes)) (cases_lt b (length g.nodes)) al bl alike;
-    meets = λ a b al bl e. same_new a b e.0 e.1 e.2;
-    finest = λ rest long closed' meets a b al bl same.
-        finest_at rest closed' meets a b (cases_lt a (length g.nodes)) (cases_lt b (length g.nodes)) al bl same;
+    closed = λ a b al bl alike. closed_at a b (cases_lt a (length nodes))
+        (cases_lt b (length nodes)) al bl alike;
+    meets = λ a b al bl e. ext.stay a b e.0 e.1 e.2;
+    finest = λ rest closed' meets a b al bl same.
+        finest_at rest closed' meets a b (cases_lt a (length nodes)) (cases_lt b (length nodes)) al
+        bl same;
   }
-
--- classes that are closed are the least over themselves
-pub known_is_least : (g : Graph) → IsClosed g.nodes g.classes → IsLeast g.nodes (SameAmong (length g.nodes) g.classes) g.classes
-known_is_least g closed = record {
-  closed = closed;
-  meets = λ a b al bl e. e.2;
-  finest = λ rest long closed' meets a b al bl same. meets a b al bl (al, bl, same);
-}

@@ -1,16 +1,25 @@
 -- What contracts see of a graph.
-use Rattle.std.specs.Prelude.{ℕ, List, ◌<◌, ◌≤◌, ◌≡◌, length, All, slice_index}
+use Rattle.std.specs.Prelude.{ℕ, List, ◌≡◌, ◌++◌, ◌<◌, length, All}
 use Rattle.esc_nodes.specs.Nodes.{Shape, AreTerms}
+use Rattle.esc_union.specs.Merges.{AreMerges, class_number}
 
--- the nodes in the order of making, the class number of each, and the pairs that no class may hold
+-- the nodes in the order of making, the pairs whose classes were merged in order, and the pairs
+-- that no class may hold
 pub record Graph : Type 0 where
   pub nodes : List Shape
-  pub classes : List ℕ
+  pub merges : List (ℕ × ℕ)
   pub forbidden : List (ℕ × ℕ)
 
--- the nodes are terms, each has a class number that is at most its own, and each pair is of nodes
+-- the number of each node's class
+abbrev pub number_of : Graph → ℕ → ℕ
+number_of g = class_number g.merges
+
+-- the nodes are terms, each merge joined two classes of them, and each forbidden pair is of nodes
 pub record IsGraph (g : Graph) : Type 0 where
   pub terms : AreTerms g.nodes
-  pub classed : length g.classes ≡ length g.nodes
-  pub lower : (k : ℕ) → k < length g.nodes → slice_index g.classes k ≤ k
+  pub merged : AreMerges (length g.nodes) g.merges
   pub paired : All (λ p. (p.0 < length g.nodes) × (p.1 < length g.nodes)) g.forbidden
+
+-- merges were added at the end
+abbrev pub Adds : List (ℕ × ℕ) → List (ℕ × ℕ) → Type 0
+Adds old new = (more : List (ℕ × ℕ)) × (new ≡ old ++ more)

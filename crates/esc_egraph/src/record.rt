@@ -1,15 +1,13 @@
 ghost use Rattle.std.specs.Prelude.{◌≡◌};
 ghost use Rattle.esc_egraph.specs.declared.record.EgraphRec.{EgraphRec};
 
-use esc_classes::Node;
-
 /// What takes one change of a graph back.
 #[derive(Clone, Copy)]
 pub enum EgraphRec {
     /// The last node was made.
     Made,
-    /// The node came into a class, from the class of this number.
-    Joined(Node, usize),
+    /// The last merge was made.
+    Merged,
     /// The last pair was forbidden.
     Forbidden,
 }

@@ -1,0 +1,84 @@
+ghost use Rattle.std.specs.Prelude.{◌≡◌, ℕ, ◌<◌, [], ◌∷◌, ◌++◌, length, OnOk, OnErr, IfOk, ◌↔◌};
+ghost use Rattle.esc_trail.specs.Undo.{Notes};
+ghost use Rattle.esc_union.specs.Merges.{SameClass};
+ghost use Rattle.esc_egraph.specs.GraphUndo.{graph_undo};
+ghost use Rattle.esc_egraph.specs.Graph.{number_of};
+ghost use Rattle.esc_egraph.specs.Congruence.{IsMet};
+
+use crate::graph::EGraph;
+use crate::record::{CarriesNodes, EgraphRec};
+use crate::state::State;
+use esc_index::Index;
+use esc_trail::Trail;
+use esc_union::Node;
+use std::alloc::AllocError;
+
+impl EGraph {
+    /// Forbids two nodes to stand in one class: Closed where they stand in one.
+    pub fn forbid<R: CarriesNodes>(
+        &mut self,
+        a: Node,
+        b: Node,
+        trail: &mut Trail<R>,
+    ) -> Result<State, AllocError>
+        requires a_is_there { a < length self.old.nodes }
+        requires b_is_there { b < length self.old.nodes }
+        requires met { IsMet self.old }
+        ensures ok { OnOk result (self.new ≡ record self.old {
+          forbidden = self.old.forbidden
+              ++ (a, b) ∷ [];
+        }) }
+        ensures closed { IfOk result (λ s. (s ≡ State.Closed)
+            ↔ SameClass (number_of self.old) a b) }
+        ensures met { IfOk result (λ s. s ≡ State.Open → IsMet self.new) }
+        ensures err { OnErr result (self.new ≡ self.old) }
+        ensures undo { Notes graph_undo R.carried_node trail.old.records trail.new.records self.old
+            self.new }
+    {
+        self.add_forbidden(a, b, trail)?;
+        if self.same(a, b) {
+            return Ok(State::Closed);
+        }
+        Ok(State::Open)
+    }
+
+    /// Adds a forbidden pair.
+    fn add_forbidden<R: CarriesNodes>(
+        &mut self,
+        a: Node,
+        b: Node,
+        trail: &mut Trail<R>,
+    ) -> Result<(), AllocError>
+        requires a_is_there { a < length self.old.nodes }
+        requires b_is_there { b < length self.old.nodes }
+        ensures ok { OnOk result (self.new ≡ record self.old {
+          forbidden = self.old.forbidden
+              ++ (a, b) ∷ [];
+        }) }
+        ensures err { OnErr result (self.new ≡ self.old) }
+        ensures undo { Notes graph_undo R.carried_node trail.old.records trail.new.records self.old
+            self.new }
+    {
+        self.parts.forbidden.reserve(1)?;
+        trail.reserve(1)?;
+        push_sides(&mut self.parts.sides, a, b)?;
+        trail.note(R::carry_node(EgraphRec::Forbidden));
+        match self.parts.forbidden.push((a, b)) {
+            Ok(()) => Ok(()),
+            Err(_) => unreachable!(),
+        }
+    }
+}
+
+/// Adds each side of a pair with the other side.
+fn push_sides(sides: &mut Index, a: Node, b: Node) -> Result<(), AllocError>
+    ensures ok { OnOk result (sides.new ≡ sides.old ++ (a, b) ∷ ((b, a) ∷ [])) }
+    ensures err { OnErr result (sides.new ≡ sides.old) }
+{
+    sides.push(a.index(), b)?;
+    if let Err(error) = sides.push(b.index(), a) {
+        sides.pop();
+        return Err(error);
+    }
+    Ok(())
+}
