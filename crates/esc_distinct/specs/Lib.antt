@@ -1,4 +1,4 @@
 pub mod Groups
 pub mod GroupsInside
 pub mod GroupsUndo
-pub mod Passes
+pub mod PassesInside

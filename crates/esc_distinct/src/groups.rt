@@ -1,8 +1,11 @@
-ghost use Rattle.std.specs.Prelude.{◌≡◌, [], ◌∷◌, ◌++◌, ◌<◌, length, All, OnOk, OnErr, IsTrue, ◌↔◌, slice_index_or};
+ghost use Rattle.std.specs.Prelude.{◌≡◌, [], ◌∷◌, ◌++◌, ◌<◌, length, All, OnOk, OnErr, IsTrue, ◌↔◌};
+ghost use Rattle.std.specs.Prelude.{slice_index_or};
 ghost use Rattle.esc_trail.specs.Undo.{Notes};
 ghost use Rattle.esc_distinct.specs.GroupsUndo.{groups_undo};
 ghost use Rattle.esc_distinct.specs.Groups.{AreApart, AreBroken};
+ghost use Rattle.esc_egraph.specs.Graph.{number_of};
 
+use crate::group::Group;
 use crate::record::{CarriesGroups, GroupRec};
 use crate::search::{holds_apart, holds_twice};
 use esc_egraph::{EGraph, Node};
@@ -14,17 +17,15 @@ use std::marker::Model;
 #[derive(Drop)]
 pub struct Groups {
     alloc: Global,
-    groups: Vec<Vec<Node>>,
+    groups: Vec<Group>,
 }
 
 impl Model for Groups {
-    ghost use Rattle.std.specs.Prelude.{ℕ, List, map};
+    ghost use Rattle.std.specs.Prelude.{ℕ, List};
 
     ghost Value = { List (List ℕ) };
 
-    ghost use Rattle.esc_distinct.specs.GroupsInside.{groups_of};
-
-    ghost view = { groups_of };
+    ghost view = { λ g. g.groups.items };
 }
 
 impl Groups {
@@ -46,9 +47,10 @@ impl Groups {
     ) -> Result<(), AllocError>
         ensures ok { OnOk result (self.new ≡ self.old ++ nodes.now ∷ []) }
         ensures err { OnErr result (self.new ≡ self.old) }
-        ensures undo { Notes groups_undo R.carried_group trail.old.records trail.new.records self.old self.new }
+        ensures undo { Notes groups_undo R.carried_group trail.old.records trail.new.records
+            self.old self.new }
     {
-        let group = nodes.to_vec(self.alloc)?;
+        let group = Group::of(self.alloc, nodes)?;
         self.groups.reserve(1)?;
         trail.reserve(1)?;
         trail.note(R::carry_group(GroupRec::Added));
@@ -63,7 +65,7 @@ impl Groups {
         requires a_is_there { a < length graph.now.nodes }
         requires b_is_there { b < length graph.now.nodes }
         requires members { All (All (λ n. n < length graph.now.nodes)) self.now }
-        ensures { IsTrue result ↔ AreApart graph.now.classes self.now a b }
+        ensures { IsTrue result ↔ AreApart (number_of graph.now) self.now a b }
     {
         'groups: for place in 0..self.count() {
             if holds_apart(graph, self.group(place), a, b) {
@@ -81,17 +83,17 @@ impl Groups {
     }
 
     /// The group at a place.
-    fn group(&self, place: usize) -> &[Node]
+    fn group(&self, place: usize) -> &Group
         requires { place < length self.now }
         ensures { result.now ≡ slice_index_or self.now place [] }
     {
-        self.groups[place].as_slice()
+        &self.groups[place]
     }
 
     /// Whether one class holds members of one group at two different places.
     pub fn broken(&self, graph: &EGraph) -> bool
         requires members { All (All (λ n. n < length graph.now.nodes)) self.now }
-        ensures { IsTrue result ↔ AreBroken graph.now.classes self.now }
+        ensures { IsTrue result ↔ AreBroken (number_of graph.now) self.now }
     {
         'groups: for place in 0..self.count() {
             if holds_twice(graph, self.group(place)) {

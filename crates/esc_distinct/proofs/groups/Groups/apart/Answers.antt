@@ -1,12 +1,16 @@
 use Rattle.std.proofs.Common.{◌≡◌, [], get_or, IsTrue, false, below_more, sym, subst, ◌∙◌, arith}
 use Rattle.std.proofs.lemmas.List.{get_or_default}
+use Rattle.esc_egraph.specs.Graph.{number_of}
 use Rattle.esc_distinct.specs.Groups.{HoldsApart}
 use Rattle.esc_distinct.proofs.groups.Groups.apart.Goals as goal
 
 pub groups-preserved : goal.groups-preserved
 groups-preserved c =
-    below_more (λ k. HoldsApart c.args.graph.now.classes c.args.a c.args.b (get_or c.args.self.now k []) → ⊥) c.groups.place c.groups.invariant
-    (λ h. let found : IsTrue c.holds_apart.result = c.holds_apart.ensures.1 (subst (HoldsApart c.args.graph.now.classes c.args.a c.args.b) (sym c.group.ensures) h) in
+    below_more (λ k. HoldsApart (number_of c.args.graph.now) c.args.a c.args.b
+    (get_or c.args.self.now k []) → ⊥) c.groups.place c.groups.invariant
+    (λ h. let found : IsTrue c.holds_apart.result =
+    c.holds_apart.ensures.1 (subst (HoldsApart (number_of c.args.graph.now) c.args.a c.args.b)
+    (sym c.group.ensures) h) in
     let not_found : c.holds_apart.result ≡ false = c.if-holds_apart.false in
     cc)
 
@@ -14,6 +18,8 @@ pub returns : goal.returns
 returns c = (
   λ e. cc,
   λ any.
-      absurd (c.groups.invariant any.0 (omega (arith, any.2, c.groups-test.false, c.count-place-end.ensures))
-      (subst (HoldsApart c.args.graph.now.classes c.args.a c.args.b) (sym any.3 ∙ get_or_default c.args.self.now any.0 any.1 [] any.2) any.4)),
+      absurd (c.groups.invariant any.0
+      (omega (arith, any.2, c.groups-test.false, c.count-place-end.ensures))
+      (subst (HoldsApart (number_of c.args.graph.now) c.args.a c.args.b) (sym any.3
+      ∙ get_or_default c.args.self.now any.0 any.1 [] any.2) any.4)),
 )
