@@ -1,5 +1,6 @@
 -- Parts are smaller than their whole, by the size that the walk over a formula goes by.
-use Rattle.std.proofs.Common.{◌≡◌, ℕ, ◌+◌, ◌*◌, ◌<◌, ◌⊎◌, inl, inr, List, length, map, sum, get_or, ap, arith}
+use Rattle.std.proofs.Common.{◌≡◌, ℕ, ◌+◌, ◌*◌, ◌<◌, ◌⊎◌, inl, inr, List, length, map, sum, get_or}
+use Rattle.std.proofs.Common.{ap, arith}
 use Rattle.std.proofs.lemmas.List.Sums.{get_or-le-sum_by, sum-map}
 use denote.Hole.Carrier.{roll}
 use Rattle.esc_term.specs.declared.term.Sym.{Sym}
@@ -10,7 +11,8 @@ use Rattle.esc_term.specs.declared.term.Term.TheOpen.{Term-F}
 use Rattle.esc_term.specs.declared.term.Term.TheViews.{roll-Term}
 use Rattle.esc_term.specs.declared.term.Term.TheFolds.{fold-Term, fold-roll-Term}
 use Rattle.esc_term.specs.declared.formula.Formula.{Formula}
-use Rattle.esc_term.specs.declared.formula.Formula.TheVariants.{And, Or, Not, Implies, Iff, LabelPos, LabelNeg}
+use Rattle.esc_term.specs.declared.formula.Formula.TheVariants.{And, Or, Not, Implies, Iff}
+use Rattle.esc_term.specs.declared.formula.Formula.TheVariants.{LabelPos, LabelNeg}
 use Rattle.esc_term.specs.declared.formula.Formula.TheOpen.{Formula-F}
 use Rattle.esc_term.specs.declared.formula.Formula.TheViews.{roll-Formula}
 use Rattle.esc_term.specs.declared.formula.Formula.TheFolds.{fold-Formula, fold-roll-Formula}
@@ -37,7 +39,8 @@ formula_step _ = 1
 unfoldable pub formula_size : Formula → ℕ
 formula_size = fold-Formula ℕ Unit formula_step (λ quant. tt)
 
-term_size-App : (head : Head) (ts : List Term) → term_size (term.App head ts) ≡ 1 + sum (map term_size ts)
+term_size-App : (head : Head) (ts : List Term) →
+    term_size (term.App head ts) ≡ 1 + sum (map term_size ts)
 unfolding term_size roll-Term roll
 term_size-App head ts = fold-roll-Term ℕ term_step (Term-F.App head ts)
 
@@ -53,46 +56,80 @@ formula_size-Not : (f : Formula) → formula_size (Not f) ≡ 1 + formula_size f
 unfolding formula_size roll-Formula roll
 formula_size-Not f = fold-roll-Formula ℕ Unit formula_step (λ quant. tt) (Formula-F.Not f)
 
-formula_size-Implies : (f g : Formula) → formula_size (Implies f g) ≡ 1 + (formula_size f + formula_size g)
+formula_size-Implies : (f g : Formula) →
+    formula_size (Implies f g) ≡ 1 + (formula_size f + formula_size g)
 unfolding formula_size roll-Formula roll
-formula_size-Implies f g = fold-roll-Formula ℕ Unit formula_step (λ quant. tt) (Formula-F.Implies f g)
+formula_size-Implies f g = fold-roll-Formula ℕ Unit formula_step (λ quant. tt)
+    (Formula-F.Implies f g)
 
 formula_size-Iff : (f g : Formula) → formula_size (Iff f g) ≡ 1 + (formula_size f + formula_size g)
 unfolding formula_size roll-Formula roll
 formula_size-Iff f g = fold-roll-Formula ℕ Unit formula_step (λ quant. tt) (Formula-F.Iff f g)
 
-formula_size-LabelPos : (name : Sym) (f : Formula) → formula_size (LabelPos name f) ≡ 1 + formula_size f
+formula_size-LabelPos : (name : Sym) (f : Formula) →
+    formula_size (LabelPos name f) ≡ 1 + formula_size f
 unfolding formula_size roll-Formula roll
-formula_size-LabelPos name f = fold-roll-Formula ℕ Unit formula_step (λ quant. tt) (Formula-F.LabelPos name f)
+formula_size-LabelPos name f = fold-roll-Formula ℕ Unit formula_step (λ quant. tt)
+    (Formula-F.LabelPos name f)
 
-formula_size-LabelNeg : (name : Sym) (f : Formula) → formula_size (LabelNeg name f) ≡ 1 + formula_size f
+formula_size-LabelNeg : (name : Sym) (f : Formula) →
+    formula_size (LabelNeg name f) ≡ 1 + formula_size f
 unfolding formula_size roll-Formula roll
-formula_size-LabelNeg name f = fold-roll-Formula ℕ Unit formula_step (λ quant. tt) (Formula-F.LabelNeg name f)
+formula_size-LabelNeg name f = fold-roll-Formula ℕ Unit formula_step (λ quant. tt)
+    (Formula-F.LabelNeg name f)
 
 -- ---- what falls
 
 -- one of a list
-pub falls-item : {X : Type 0} (size : X → ℕ) (xs : List X) (i : ℕ) (x : X) → i < length xs → x ≡ get_or xs i x → 2 * size x < 1 + 2 * sum (map size xs)
-falls-item size xs i x within is = omega (arith, ap size is, get_or-le-sum_by size xs i x within, sum-map size xs)
+pub falls-item : {X : Type 0} (size : X → ℕ) (xs : List X) (i : ℕ) (x : X) → i < length xs →
+    x ≡ get_or xs i x → 2 * size x < 1 + 2 * sum (map size xs)
+falls-item size xs i x within is =
+    omega (arith, ap size is, get_or-le-sum_by size xs i x within, sum-map size xs)
 
-pub falls-args : (t : Term) (head : Head) (args ts : List Term) → t ≡ term.App head args → ts ≡ args → 1 + 2 * sum (map term_size ts) < 2 * term_size t
-falls-args t head args ts is same = omega (arith, ap term_size is, term_size-App head args, ap (λ us. sum (map term_size us)) same)
+pub falls-args : (t : Term) (head : Head) (args ts : List Term) → t ≡ term.App head args →
+    ts ≡ args → 1 + 2 * sum (map term_size ts) < 2 * term_size t
+falls-args t head args ts is same =
+    omega (arith, ap term_size is, term_size-App head args, ap (λ us. sum (map term_size us)) same)
 
 module _ (f : Formula) where
-  pub falls-part : (g part : Formula) → (f ≡ Not g) ⊎ (((name : Sym) × (f ≡ LabelPos name g)) ⊎ ((name : Sym) × (f ≡ LabelNeg name g))) → part ≡ g →
+  pub falls-part : (g part : Formula) →
+      (f ≡ Not g) ⊎
+      (((name : Sym) × (f ≡ LabelPos name g)) ⊎ ((name : Sym) × (f ≡ LabelNeg name g))) → part ≡ g →
       2 * formula_size part < 2 * formula_size f
-  falls-part g part (inl e) same = omega (arith, ap formula_size same, ap formula_size e, formula_size-Not g)
-  falls-part g part (inr (inl (name, e))) same = omega (arith, ap formula_size same, ap formula_size e, formula_size-LabelPos name g)
-  falls-part g part (inr (inr (name, e))) same = omega (arith, ap formula_size same, ap formula_size e, formula_size-LabelNeg name g)
+  falls-part g part (inl e) same =
+      omega (arith, ap formula_size same, ap formula_size e, formula_size-Not g)
+  falls-part g part (inr (inl (name, e))) same =
+      omega (arith, ap formula_size same, ap formula_size e, formula_size-LabelPos name g)
+  falls-part g part (inr (inr (name, e))) same =
+      omega (arith, ap formula_size same, ap formula_size e, formula_size-LabelNeg name g)
 
-  pub falls-parts : (gs parts : List Formula) → (f ≡ And gs) ⊎ (f ≡ Or gs) → parts ≡ gs → 1 + 2 * sum (map formula_size parts) < 2 * formula_size f
-  falls-parts gs parts (inl e) same = omega (arith, ap (λ hs. sum (map formula_size hs)) same, ap formula_size e, formula_size-And gs)
-  falls-parts gs parts (inr e) same = omega (arith, ap (λ hs. sum (map formula_size hs)) same, ap formula_size e, formula_size-Or gs)
+  pub falls-parts : (gs parts : List Formula) → (f ≡ And gs) ⊎ (f ≡ Or gs) → parts ≡ gs →
+      1 + 2 * sum (map formula_size parts) < 2 * formula_size f
+  falls-parts gs parts (inl e) same =
+      omega (
+        arith,
+        ap (λ hs. sum (map formula_size hs)) same,
+        ap formula_size e,
+        formula_size-And gs,
+      )
+  falls-parts gs parts (inr e) same =
+      omega (
+        arith,
+        ap (λ hs. sum (map formula_size hs)) same,
+        ap formula_size e,
+        formula_size-Or gs,
+      )
 
-  pub falls-left : (g h part : Formula) → (f ≡ Implies g h) ⊎ (f ≡ Iff g h) → part ≡ g → 2 * formula_size part < 2 * formula_size f
-  falls-left g h part (inl e) same = omega (arith, ap formula_size same, ap formula_size e, formula_size-Implies g h)
-  falls-left g h part (inr e) same = omega (arith, ap formula_size same, ap formula_size e, formula_size-Iff g h)
+  pub falls-left : (g h part : Formula) → (f ≡ Implies g h) ⊎ (f ≡ Iff g h) → part ≡ g →
+      2 * formula_size part < 2 * formula_size f
+  falls-left g h part (inl e) same =
+      omega (arith, ap formula_size same, ap formula_size e, formula_size-Implies g h)
+  falls-left g h part (inr e) same =
+      omega (arith, ap formula_size same, ap formula_size e, formula_size-Iff g h)
 
-  pub falls-right : (g h part : Formula) → (f ≡ Implies g h) ⊎ (f ≡ Iff g h) → part ≡ h → 2 * formula_size part < 2 * formula_size f
-  falls-right g h part (inl e) same = omega (arith, ap formula_size same, ap formula_size e, formula_size-Implies g h)
-  falls-right g h part (inr e) same = omega (arith, ap formula_size same, ap formula_size e, formula_size-Iff g h)
+  pub falls-right : (g h part : Formula) → (f ≡ Implies g h) ⊎ (f ≡ Iff g h) → part ≡ h →
+      2 * formula_size part < 2 * formula_size f
+  falls-right g h part (inl e) same =
+      omega (arith, ap formula_size same, ap formula_size e, formula_size-Implies g h)
+  falls-right g h part (inr e) same =
+      omega (arith, ap formula_size same, ap formula_size e, formula_size-Iff g h)

@@ -1,125 +1,130 @@
--- Nodes that are made one after another, each a class by itself: the terms in play, and the branch that they make.
-use Rattle.std.proofs.Common.{◌≡◌, ℕ, pos, ◌<◌, ◌⊎◌, Bool, true, inl, inr, List, [], ◌∷◌, ◌++◌, length, get_or, All, refl, ap, sym, subst, ◌∙◌, arith}
-use Rattle.std.specs.List.{Contains, range_with_len}
+-- Nodes that are made one after another, each a class by itself: the terms in play, and the branch
+-- that they make.
+use Rattle.std.proofs.Common.{◌≡◌, ℕ, pos, ◌<◌, ◌⊎◌, Bool, true, inl, inr, List, [], ◌∷◌, ◌++◌}
+use Rattle.std.proofs.Common.{length, All, refl, ap, sym, subst, ◌∙◌, arith}
+use Rattle.std.specs.List.{Contains}
 use Rattle.std.proofs.lemmas.Grind.{same_number_lists}
 use Rattle.std.proofs.lemmas.List.{get_or_push, length_push}
-use Rattle.std.proofs.lemmas.List.FromFn.{length-range_with_len, get_or-range_with_len}
 use Rattle.std.proofs.lemmas.List.Sums.{fold-append}
 use Rattle.esc_term.specs.declared.term.Term.{Term}
 use Rattle.esc_term.specs.declared.term.Term.TheVariants as term
 use Rattle.esc_term.specs.declared.formula.Item.{Item}
 use Rattle.esc_term.specs.Term.{with_once}
 use Rattle.esc_term.proofs.Members.{Contains-none}
-use Rattle.esc_classes.specs.Classes.{SameClass}
+use Rattle.esc_union.specs.Merges.{SameClass}
 use Rattle.esc_cover.specs.Least as cover
 use Rattle.esc_cover.specs.Classes.{together}
 use Rattle.esc_nodes.specs.Nodes.{AreTerms, Shape, shape_at}
 use Rattle.esc_nodes.specs.Terms.{at_place, built, term_of, terms_of, with_next}
 use Rattle.esc_nodes.proofs.NodeTerms.{terms_are_built, terms_are_once, terms_stay}
-use Rattle.esc_egraph.specs.Congruence.{IsClosed, IsKnown, IsLeast, IsMade, IsMet, SameAmong}
-use Rattle.esc_egraph.specs.Graph.{Graph, IsGraph}
+use Rattle.esc_egraph.specs.Congruence.{IsCongruence, IsKnown, IsLeast, IsMade, IsMet, SameAmong}
+use Rattle.esc_egraph.specs.Graph.{Graph, IsGraph, number_of}
 use Rattle.esc_branch.specs.declared.branch.Branch.{Branch}
-use Rattle.esc_branch.specs.Starting.{IsBare}
-use Rattle.esc_branch.specs.View.{IsBranch, classes_in, literals_in, same_in, term_at, terms_in}
+use Rattle.esc_branch.specs.StartingInside.{IsBare}
+use Rattle.esc_branch.specs.View.{IsBranch, classes_in, literals_in, play_in, same_in, term_at}
+use Rattle.esc_branch.specs.View.{terms_in}
 use Rattle.esc_branch.proofs.Agreeing.{IsTold}
 use Rattle.esc_branch.proofs.Finest.{congruence_in, together_in}
 use Rattle.esc_branch.proofs.NodeTests.{of_together_at}
 use Rattle.esc_branch.proofs.Once.{with_once-absent, with_once-there}
 use Rattle.esc_branch.proofs.Outcomes.{is_branch}
-use Rattle.esc_branch.proofs.Together.{Contains-term_of, length-terms_of, node_of_term, same_in-equivalence}
+use Rattle.esc_branch.proofs.Together.{Contains-term_of, length-terms_of, node_of_term}
+use Rattle.esc_branch.proofs.Together.{same_in-equivalence}
 
 -- ---- the terms
 
-terms_of-push : (nodes : List Shape) (s : Shape) → terms_of (nodes ++ (s ∷ [])) ≡ terms_of nodes ++ (built (term_of nodes) s.top s.args ∷ [])
+terms_of-push : (nodes : List Shape) (s : Shape) →
+    terms_of (nodes ++ (s ∷ [])) ≡ terms_of nodes ++ (built (term_of nodes) s.top s.args ∷ [])
 unfolding terms_of term_of
 terms_of-push nodes s = fold-append with_next [] nodes (s ∷ [])
 
-term_of-push : (nodes : List Shape) (s : Shape) → term_of (nodes ++ (s ∷ [])) (length nodes) ≡ built (term_of nodes) s.top s.args
+term_of-push : (nodes : List Shape) (s : Shape) → term_of (nodes ++ (s ∷ [])) (length nodes)
+    ≡ built (term_of nodes) s.top s.args
 unfolding term_of
 term_of-push nodes s =
     ap (λ ts. at_place ts (length nodes)) (terms_of-push nodes s)
-    ∙ get_or_push (terms_of nodes) (built (term_of nodes) s.top s.args) (term.Num (pos 0)) (length nodes) (length-terms_of nodes)
+    ∙ get_or_push (terms_of nodes) (built (term_of nodes) s.top s.args) (term.Num (pos 0))
+    (length nodes) (length-terms_of nodes)
 
-new_term : (nodes : List Shape) (s : Shape) → AreTerms (nodes ++ (s ∷ [])) → Contains (terms_of nodes) (built (term_of nodes) s.top s.args) → ⊥
+new_term : (nodes : List Shape) (s : Shape) → AreTerms (nodes ++ (s ∷ [])) →
+    Contains (terms_of nodes) (built (term_of nodes) s.top s.args) → ⊥
 new_term nodes s are h =
     let at = node_of_term nodes (built (term_of nodes) s.top s.args) h in
     let one : at.0 ≡ length nodes =
-    terms_are_once (nodes ++ (s ∷ [])) are at.0 (length nodes) (omega (arith, at.1, length_push nodes s)) (omega (arith, length_push nodes s))
+    terms_are_once (nodes ++ (s ∷ [])) are at.0 (length nodes)
+    (omega (arith, at.1, length_push nodes s)) (omega (arith, length_push nodes s))
     (terms_stay nodes (s ∷ []) at.0 at.1 ∙ (at.2 ∙ sym (term_of-push nodes s))) in
     omega (arith, at.1, one)
 
-known_term : (old : Graph) (s : Shape) (node : ℕ) → AreTerms old.nodes → node < length old.nodes → shape_at old.nodes node ≡ s →
+known_term : (old : Graph) (s : Shape) (node : ℕ) → AreTerms old.nodes → node < length old.nodes →
+    shape_at old.nodes node ≡ s →
     term_of old.nodes node ≡ built (term_of old.nodes) s.top s.args
-known_term old s node are there is = terms_are_built old.nodes are node there ∙ ap (λ (x : Shape). built (term_of old.nodes) x.top x.args) is
+known_term old s node are there is = terms_are_built old.nodes are node there
+    ∙ ap (λ (x : Shape). built (term_of old.nodes) x.top x.args) is
 
-pub terms_grown : (old new : Graph) (s : Shape) (node : ℕ) → IsGraph new → IsKnown old new s node ⊎ IsMade old new s node →
+pub terms_grown : (old new : Graph) (s : Shape) (node : ℕ) → IsGraph new →
+    IsKnown old new s node ⊎ IsMade old new s node →
     terms_of new.nodes ≡ with_once (terms_of old.nodes) (built (term_of old.nodes) s.top s.args)
 terms_grown old new s node sound (inl known) =
-    let is = known_term old s node (subst (λ (g : Graph). AreTerms g.nodes) known.same sound.terms) known.there known.is in
+    let is = known_term old s node (subst (λ (g : Graph). AreTerms g.nodes) known.same sound.terms)
+    known.there known.is in
     ap (λ (g : Graph). terms_of g.nodes) known.same
     ∙ sym (with_once-there (terms_of old.nodes) (built (term_of old.nodes) s.top s.args)
     (subst (Contains (terms_of old.nodes)) is (Contains-term_of old.nodes node known.there)))
 terms_grown old new s node sound (inr made) =
     ap terms_of made.nodes ∙ (terms_of-push old.nodes s
-    ∙ sym (with_once-absent (terms_of old.nodes) (built (term_of old.nodes) s.top s.args) (new_term old.nodes s (subst AreTerms made.nodes sound.terms))))
+    ∙ sym (with_once-absent (terms_of old.nodes) (built (term_of old.nodes) s.top s.args)
+    (new_term old.nodes s (subst AreTerms made.nodes sound.terms))))
 
-pub term_grown : (old new : Graph) (s : Shape) (node : ℕ) → IsGraph new → IsKnown old new s node ⊎ IsMade old new s node →
+pub term_grown : (old new : Graph) (s : Shape) (node : ℕ) → IsGraph new →
+    IsKnown old new s node ⊎ IsMade old new s node →
     term_of new.nodes node ≡ built (term_of old.nodes) s.top s.args
 term_grown old new s node sound (inl known) =
     ap (λ (g : Graph). term_of g.nodes node) known.same
-    ∙ known_term old s node (subst (λ (g : Graph). AreTerms g.nodes) known.same sound.terms) known.there known.is
+    ∙ known_term old s node (subst (λ (g : Graph). AreTerms g.nodes) known.same sound.terms)
+    known.there known.is
 term_grown old new s node sound (inr made) =
-    ap (λ nodes. term_of nodes node) made.nodes ∙ (ap (term_of (old.nodes ++ (s ∷ []))) made.last ∙ term_of-push old.nodes s)
+    ap (λ nodes. term_of nodes node) made.nodes
+    ∙ (ap (term_of (old.nodes ++ (s ∷ []))) made.last ∙ term_of-push old.nodes s)
 
 -- ---- each node is a class by itself
 
 module _ (nodes : List Shape) (are : AreTerms nodes) where
-  places : List ℕ
-  places = range_with_len 0 (length nodes)
-
-  length-places : length places ≡ length nodes
-  unfolding places
-  length-places = length-range_with_len 0 (length nodes)
-
-  place_at : (k : ℕ) → k < length nodes → get_or places k 0 ≡ k
-  unfolding places
-  place_at k l = omega (arith, get_or-range_with_len 0 (length nodes) k 0 l)
-
-  of_places : (a b : ℕ) → a < length nodes → b < length nodes → SameClass places a b → a ≡ b
-  of_places a b al bl same = sym (place_at a al) ∙ (same ∙ place_at b bl)
-
-  places_are_closed : IsClosed nodes places
-  places_are_closed a b al bl alike =
+  alone_is_closed : IsCongruence nodes (λ k. k)
+  alone_is_closed a b al bl alike =
       let args : (shape_at nodes a).args ≡ (shape_at nodes b).args =
-      same_number_lists (shape_at nodes a).args (shape_at nodes b).args alike.args.lengths
-      (λ k l. of_places (get_or (shape_at nodes a).args k 0) (get_or (shape_at nodes b).args k 0)
-      (omega (arith, al, are.older a al k 0 l)) (omega (arith, bl, are.older b bl k 0 (omega (arith, l, alike.args.lengths)))) (alike.args.places k l)) in
+      same_number_lists (shape_at nodes a).args
+      (shape_at nodes b).args alike.args.lengths alike.args.places in
       let shapes : shape_at nodes a ≡ shape_at nodes b =
-      ap (λ top. let s : Shape = record { top = top; args = (shape_at nodes a).args } in s) alike.top
+      ap (λ top. let s : Shape = record { top = top; args = (shape_at nodes a).args } in
+      s) alike.top
       ∙ ap (λ xs. let s : Shape = record { top = (shape_at nodes b).top; args = xs } in s) args in
-      ap (λ k. get_or places k 0) (are.once a b al bl shapes)
+      are.once a b al bl shapes
 
-  pub least_apart : (Equal : ℕ → ℕ → Type 0) (classes : List ℕ) → IsLeast nodes Equal classes →
-      ((a b : ℕ) → a < length nodes → b < length nodes → Equal a b → a ≡ b) → (a b : ℕ) → a < length nodes → b < length nodes → SameClass classes a b → a ≡ b
-  least_apart Equal classes least none a b al bl same =
-      of_places a b al bl
-      (least.finest places length-places places_are_closed (λ x y xl yl e. ap (λ k. get_or places k 0) (none x y xl yl e)) a b al bl same)
+  pub least_apart : (Equal : ℕ → ℕ → Type 0) (number : ℕ → ℕ) → IsLeast nodes Equal number →
+      ((a b : ℕ) → a < length nodes → b < length nodes → Equal a b → a ≡ b) → (a b : ℕ) →
+      a < length nodes → b < length nodes → SameClass number a b → a ≡ b
+  least_apart Equal number least none a b al bl same =
+      least.finest (λ k. k) alone_is_closed none a b al bl same
 
-pub bare_grown : (v : Branch) (new : Graph) (s : Shape) (node : ℕ) → IsBare v → IsGraph new → IsMet new → IsKnown v.graph new s node ⊎ IsMade v.graph new s node →
+pub bare_grown : (v : Branch) (new : Graph) (s : Shape) (node : ℕ) → IsBare v → IsGraph new →
+    IsMet new → IsKnown v.graph new s node ⊎ IsMade v.graph new s node →
     IsBare (record v { graph = new })
 bare_grown v new s node bare sound met (inl known) = record {
   literals = bare.literals;
   groups = bare.groups;
   forbidden = ap (λ (g : Graph). g.forbidden) known.same ∙ bare.forbidden;
   met = met;
-  apart = subst (λ (g : Graph). (a b : ℕ) → a < length g.nodes → b < length g.nodes → SameClass g.classes a b → a ≡ b) (sym known.same) bare.apart;
+  apart = subst (λ (g : Graph). (a b : ℕ) → a < length g.nodes → b < length g.nodes →
+      SameClass (number_of g) a b → a ≡ b) (sym known.same) bare.apart;
 }
 bare_grown v new s node bare sound met (inr made) = record {
   literals = bare.literals;
   groups = bare.groups;
   forbidden = made.forbidden ∙ bare.forbidden;
   met = met;
-  apart = least_apart new.nodes sound.terms (SameAmong (length v.graph.nodes) v.graph.classes) new.classes made.least (λ a b al bl same. bare.apart a b same.0 same.1 same.2);
+  apart = least_apart new.nodes sound.terms (SameAmong (length v.graph.nodes) (number_of v.graph))
+      (number_of new) made.least (λ a b al bl same. bare.apart a b same.0 same.1 same.2);
 }
 
 -- ---- the branch
@@ -128,10 +133,12 @@ terms_of-none : terms_of [] ≡ []
 unfolding terms_of
 terms_of-none = refl
 
-pub no_terms : (g : Graph) → g ≡ record { nodes = []; classes = []; forbidden = [] } → terms_of g.nodes ≡ []
+pub no_terms : (g : Graph) → g ≡ record { nodes = []; merges = []; forbidden = [] } →
+    terms_of g.nodes ≡ []
 no_terms g empty = ap (λ (h : Graph). terms_of h.nodes) empty ∙ terms_of-none
 
-pub bare_empty : (v : Branch) → v.graph ≡ record { nodes = []; classes = []; forbidden = [] } → IsMet v.graph → v.groups ≡ [] → literals_in v ≡ [] → IsBare v
+pub bare_empty : (v : Branch) → v.graph ≡ record { nodes = []; merges = []; forbidden = [] } →
+    IsMet v.graph → v.groups ≡ [] → literals_in v ≡ [] → IsBare v
 bare_empty v empty met groups literals = record {
   literals = literals;
   groups = groups;
@@ -147,7 +154,8 @@ module _ (v : Branch) (bare : IsBare v) (sound : IsGraph v.graph) where
   told_bare : IsTold v
   told_bare = record {
     graph = sound;
-    members = subst (All (All (λ n. n < length v.graph.nodes))) (sym bare.groups) (λ k d l. absurd (omega (arith, l)));
+    members = subst (All (All (λ n. n < length v.graph.nodes))) (sym bare.groups)
+        (λ k d l. absurd (omega (arith, l)));
     forms = λ k d l. absurd (omega (arith, l, ap length bare.literals));
     equations_are = λ s t h. absurd (no_literal _ h);
     pairs_are = λ k d l. absurd (omega (arith, l, ap length bare.forbidden));
@@ -156,29 +164,34 @@ module _ (v : Branch) (bare : IsBare v) (sound : IsGraph v.graph) where
     distinctions_are = λ ts h. absurd (no_literal _ h);
   }
 
-  finest_bare : (other : Term → Term → Bool) → cover.IsClosed other (terms_in v) (literals_in v) →
-      (s t : Term) → Contains (terms_in v) s → Contains (terms_in v) t → same_in v s t ≡ true → other s t ≡ true
+  finest_bare : (other : Term → Term → Bool) → cover.IsCongruent other (play_in v) (literals_in v) →
+      (s t : Term) → Contains (terms_in v) s → Contains (terms_in v) t → same_in v s t ≡ true →
+      other s t ≡ true
   finest_bare other closed s t hs ht e =
       let m = node_of_term v.graph.nodes s hs in
       let n = node_of_term v.graph.nodes t ht in
       let one : together (classes_in v) (term_at v m.0) (term_at v n.0) ≡ true =
-      ap (λ u. together (classes_in v) u (term_at v n.0)) m.2 ∙ (ap (together (classes_in v) s) n.2 ∙ together_in v sound s t hs ht e) in
-      let node : m.0 ≡ n.0 = bare.apart m.0 n.0 m.1 n.1 (of_together_at v sound m.0 n.0 m.1 n.1 one) in
+      ap (λ u. together (classes_in v) u (term_at v n.0)) m.2
+      ∙ (ap (together (classes_in v) s) n.2 ∙ together_in v sound s t hs ht e) in
+      let node : m.0 ≡ n.0 =
+      bare.apart m.0 n.0 m.1 n.1 (of_together_at v sound m.0 n.0 m.1 n.1 one) in
       let same : s ≡ t = sym m.2 ∙ (ap (term_at v) node ∙ n.2) in
       ap (other s) (sym same) ∙ closed.equivalence.refl s
 
-  least_bare : cover.IsLeast (literals_in v) (terms_in v) (classes_in v)
+  least_bare : cover.IsLeast (literals_in v) (play_in v) (classes_in v)
   unfolding classes_in
   least_bare = record {
     same = same_in v;
-    closed = record {
+    congruent = record {
       equivalence = same_in-equivalence v;
       congruence = congruence_in v sound bare.met.closed;
       equations = λ s t h. absurd (no_literal _ h);
+      values = λ s t h. absurd (Contains-none s h);
     };
     finest = finest_bare;
     shown = refl;
   }
 
   pub starts : IsBranch v
-  starts = is_branch v told_bare least_bare bare.met (λ broken. omega (arith, broken.2, ap length bare.groups))
+  starts = is_branch v told_bare least_bare bare.met
+      (λ broken. omega (arith, broken.2, ap length bare.groups))

@@ -5,9 +5,10 @@ pub mod ClassTerms
 pub mod Falling
 pub mod Finest
 pub mod Growing
-pub mod InPlay
 pub mod Leaders
+pub mod Listing
 pub mod LiteralForms
+pub mod Marking
 pub mod NodeTests
 pub mod Once
 pub mod Outcomes

@@ -14,7 +14,8 @@ pub out-Eq : (s t : Term) → out-Formula (formula.Eq s t) ≡ Formula-F.Eq s t
 out-Eq s t = ap out-Formula (sym (rolls-Eq s t)) ∙ out-roll-Formula (Formula-F.Eq s t)
 
 pub out-Distinct : (ts : List Term) → out-Formula (formula.Distinct ts) ≡ Formula-F.Distinct ts
-out-Distinct ts = ap out-Formula (sym (rolls-Distinct ts)) ∙ out-roll-Formula (Formula-F.Distinct ts)
+out-Distinct ts = ap out-Formula (sym (rolls-Distinct ts))
+    ∙ out-roll-Formula (Formula-F.Distinct ts)
 
 same_Eq : (s t u v : Term) → formula.Eq s t ≡ formula.Eq u v → (s ≡ u) × (t ≡ v)
 same_Eq s t u v e =
@@ -56,8 +57,10 @@ equated_no_apart s t ts e = Eq_no_Distinct s t ts (ap (λ (item : Item). item.fo
 pub denied_no_apart : (s t : Term) (ts : List Term) → denied s t ≡ told_apart ts → ⊥
 denied_no_apart s t ts e = Eq_no_Distinct s t ts (ap (λ (item : Item). item.formula) e)
 
-pub form-Eq : (s t : Term) (positive : _) → IsTrue (is_branch_form (out-Formula (formula.Eq s t)) positive)
+pub form-Eq : (s t : Term) (positive : _) →
+    IsTrue (is_branch_form (out-Formula (formula.Eq s t)) positive)
 form-Eq s t positive = ap (λ form. is_branch_form form positive) (out-Eq s t)
 
-pub form-Distinct : (ts : List Term) → IsTrue (is_branch_form (out-Formula (formula.Distinct ts)) true)
+pub form-Distinct : (ts : List Term) →
+    IsTrue (is_branch_form (out-Formula (formula.Distinct ts)) true)
 form-Distinct ts = ap (λ form. is_branch_form form true) (out-Distinct ts)

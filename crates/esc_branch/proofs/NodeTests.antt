@@ -1,34 +1,37 @@
 -- Nodes in one class, and their terms in one class.
-use Rattle.std.proofs.Common.{◌≡◌, ℕ, ℤ, ◌<◌, true, List, length, get_or, map, refl, ap, sym, subst, ◌∙◌}
+use Rattle.std.proofs.Common.{◌≡◌, ℕ, ℤ, ◌<◌, true, List, length, map, refl, ap, sym, subst, ◌∙◌}
 use Rattle.std.specs.List.{Contains}
 use Rattle.esc_term.specs.declared.term.Term.{Term}
 use Rattle.esc_term.specs.declared.term.Term.TheVariants as term
 use Rattle.esc_term.proofs.Parts.{apart_Num}
-use Rattle.esc_classes.specs.Classes.{SameClass}
+use Rattle.esc_union.specs.Merges.{SameClass}
 use Rattle.esc_cover.specs.Classes.{together}
 use Rattle.esc_nodes.specs.Nodes.{AreTerms, Shape, shape_at}
 use Rattle.esc_nodes.specs.Terms.{built, term_of}
 use Rattle.esc_nodes.specs.declared.top.Top.{Top}
 use Rattle.esc_nodes.specs.declared.top.Top.TheVariants.{Num, App}
 use Rattle.esc_nodes.proofs.NodeTerms.{terms_are_built, terms_are_once}
-use Rattle.esc_egraph.specs.Graph.{IsGraph}
+use Rattle.esc_egraph.specs.Graph.{IsGraph, number_of}
 use Rattle.esc_branch.specs.declared.branch.Branch.{Branch}
 use Rattle.esc_branch.specs.View.{classes_in, term_at, terms_in}
 use Rattle.esc_branch.proofs.Together.{node_of_term, nodes_of_together, together_of_nodes}
 
 module _ (v : Branch) (graph : IsGraph v.graph) where
-  pub together_at : (a b : ℕ) → a < length v.graph.nodes → b < length v.graph.nodes → SameClass v.graph.classes a b →
+  pub together_at : (a b : ℕ) → a < length v.graph.nodes → b < length v.graph.nodes →
+      SameClass (number_of v.graph) a b →
       together (classes_in v) (term_at v a) (term_at v b) ≡ true
-  together_at a b al bl same = together_of_nodes v graph.terms graph.classed a b al bl same
+  together_at a b al bl same = together_of_nodes v graph.terms a b al bl same
 
   -- nodes whose terms stand in one class stand in one
   pub of_together_at : (a b : ℕ) → a < length v.graph.nodes → b < length v.graph.nodes →
-      together (classes_in v) (term_at v a) (term_at v b) ≡ true → SameClass v.graph.classes a b
+      together (classes_in v) (term_at v a) (term_at v b) ≡ true → SameClass (number_of v.graph) a b
   of_together_at a b al bl e =
-      let found = nodes_of_together v graph.terms graph.classed (term_at v a) (term_at v b) e in
-      let left : found.0 ≡ a = terms_are_once v.graph.nodes graph.terms found.0 a found.2 al found.4 in
-      let right : found.1 ≡ b = terms_are_once v.graph.nodes graph.terms found.1 b found.3 bl found.5 in
-      ap (λ n. get_or v.graph.classes n 0) (sym left) ∙ found.6 ∙ ap (λ n. get_or v.graph.classes n 0) right
+      let found = nodes_of_together v graph.terms (term_at v a) (term_at v b) e in
+      let left : found.0 ≡ a =
+      terms_are_once v.graph.nodes graph.terms found.0 a found.2 al found.4 in
+      let right : found.1 ≡ b =
+      terms_are_once v.graph.nodes graph.terms found.1 b found.3 bl found.5 in
+      ap (number_of v.graph) (sym left) ∙ found.6 ∙ ap (number_of v.graph) right
 
   -- a term in play stands in a class with itself
   pub together_itself : (t : Term) → Contains (terms_in v) t → together (classes_in v) t t ≡ true
@@ -36,12 +39,15 @@ module _ (v : Branch) (graph : IsGraph v.graph) where
       let at = node_of_term v.graph.nodes t h in
       subst (λ u. together (classes_in v) u u ≡ true) at.2 (together_at at.0 at.0 at.1 at.1 refl)
 
-numeral_built : (of : ℕ → Term) (top : Top) (args : List ℕ) (n : ℤ) → built of top args ≡ term.Num n → top ≡ Num n
+numeral_built : (of : ℕ → Term) (top : Top) (args : List ℕ) (n : ℤ) →
+    built of top args ≡ term.Num n → top ≡ Num n
 numeral_built of (Num m) args n e = cc
 numeral_built of (App head) args n e = absurd (apart_Num n head (map of args) (sym e))
 
 -- the top of a numeral's node
-pub top-numeral : (nodes : List Shape) → AreTerms nodes → (k : ℕ) → k < length nodes → (n : ℤ) → term_of nodes k ≡ term.Num n →
+pub top-numeral : (nodes : List Shape) → AreTerms nodes → (k : ℕ) → k < length nodes → (n : ℤ) →
+    term_of nodes k ≡ term.Num n →
     (shape_at nodes k).top ≡ Num n
 top-numeral nodes are k l n e =
-    numeral_built (term_of nodes) (shape_at nodes k).top (shape_at nodes k).args n (sym (terms_are_built nodes are k l) ∙ e)
+    numeral_built (term_of nodes) (shape_at nodes k).top (shape_at nodes k).args n
+    (sym (terms_are_built nodes are k l) ∙ e)

@@ -1,5 +1,6 @@
 -- Tests of the terms at two places of a list.
-use Rattle.std.proofs.Common.{◌≡◌, ◌≢◌, ℕ, zero, suc, ◌<◌, Bool, true, inl, inr, List, [], ◌∷◌, length, get_or, refl, ap, ◌∙◌, arith}
+use Rattle.std.proofs.Common.{◌≡◌, ◌≢◌, ℕ, zero, suc, ◌<◌, Bool, true, inl, inr, List, [], ◌∷◌}
+use Rattle.std.proofs.Common.{length, get_or, refl, ap, ◌∙◌, arith}
 use Rattle.std.specs.List.{list_any}
 use Rattle.std.proofs.lemmas.List.{get_or_default}
 use Rattle.std.proofs.lemmas.List.Elements.{Contains-get_or}
@@ -23,7 +24,8 @@ module _ (test : Term → Term → Bool) (d : Term) where
       elim (or_cases (list_any (test t) ts) (some_two test ts) e) [
         | inl here ↦
             let found = any_found (test t) ts here in
-            let at : get_or ts found.1.0 d ≡ found.0 = get_or_default ts found.1.0 d found.0 found.1.1 ∙ found.1.2 in
+            let at : get_or ts found.1.0 d ≡ found.0 =
+            get_or_default ts found.1.0 d found.0 found.1.1 ∙ found.1.2 in
             record {
               i = zero;
               j = suc found.1.0;
@@ -44,14 +46,19 @@ module _ (test : Term → Term → Bool) (d : Term) where
             }
       ]
 
-  pub some_two_at : ((s t : Term) → test s t ≡ true → test t s ≡ true) → (ts : List Term) (i j : ℕ) → i ≢ j → i < length ts → j < length ts
+  pub some_two_at : ((s t : Term) → test s t ≡ true → test t s ≡ true) →
+      (ts : List Term) (i j : ℕ) → i ≢ j → i < length ts → j < length ts
       → test (get_or ts i d) (get_or ts j d) ≡ true → some_two test ts ≡ true
   some_two_at turned [] i j differ il jl e = absurd (omega (arith, il))
   some_two_at turned (t ∷ ts) zero zero differ il jl e = absurd (differ refl)
   some_two_at turned (t ∷ ts) zero (suc j) differ il jl e =
-      or_left (list_any (test t) ts) (some_two test ts) (any_at (test t) ts (get_or ts j d) (Contains-get_or ts j d (omega (arith, jl))) e)
+      or_left (list_any (test t) ts) (some_two test ts)
+      (any_at (test t) ts (get_or ts j d) (Contains-get_or ts j d (omega (arith, jl))) e)
   some_two_at turned (t ∷ ts) (suc i) zero differ il jl e =
-      or_left (list_any (test t) ts) (some_two test ts) (any_at (test t) ts (get_or ts i d) (Contains-get_or ts i d (omega (arith, il))) (turned (get_or ts i d) t e))
+      or_left (list_any (test t) ts) (some_two test ts)
+      (any_at (test t) ts (get_or ts i d) (Contains-get_or ts i d (omega (arith, il)))
+      (turned (get_or ts i d) t e))
   some_two_at turned (t ∷ ts) (suc i) (suc j) differ il jl e =
       or_right (list_any (test t) ts) (some_two test ts)
-      (some_two_at turned ts i j (λ same. differ (ap suc same)) (omega (arith, il)) (omega (arith, jl)) e)
+      (some_two_at turned ts i j (λ same. differ (ap suc same)) (omega (arith, il))
+      (omega (arith, jl)) e)

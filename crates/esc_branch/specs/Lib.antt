@@ -1,4 +1,4 @@
 pub mod BranchUndo
-pub mod Starting
+pub mod StartingInside
 pub mod Steps
 pub mod View

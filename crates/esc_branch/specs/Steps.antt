@@ -11,19 +11,21 @@ use Rattle.esc_branch.specs.declared.branch.Branch.{Branch}
 
 -- the branch says that the formula has this sign
 abbrev pub covers : Branch → Item → Bool
-covers v item = if item.positive then (cover_in v item.formula).holds else (cover_in v item.formula).fails
+covers v item = if item.positive then (cover_in v item.formula).holds else
+    (cover_in v item.formula).fails
 
 -- the branch went on: the same terms, more literals, coarser classes
-pub record Extends (v w : Branch) : Type 0 where
+pub record IsFurther (v w : Branch) : Type 0 where
   pub terms : terms_in w ≡ terms_in v
   pub more : List Item
   pub literals : literals_in w ≡ literals_in v ++ more
-  pub joined : (s t : Term) → IsTrue (together (classes_in v) s t) → IsTrue (together (classes_in w) s t)
+  pub joined : (s t : Term) → IsTrue (together (classes_in v) s t) →
+      IsTrue (together (classes_in w) s t)
 
 -- a literal was asserted, and the branch stays open: the literal is the last, unless it was covered
 pub record Asserted (v w : Branch) (item : Item) : Type 0 where
   pub branch : IsBranch w
-  pub extends : Extends v w
+  pub extends : IsFurther v w
   pub literals : (literals_in w ≡ literals_in v) ⊎ (literals_in w ≡ literals_in v ++ item ∷ [])
   pub covered : IsTrue (covers w item)
   pub kept : IsTrue (covers v item) → w ≡ v

@@ -2,7 +2,7 @@ ghost use Rattle.std.specs.Prelude.{◌≡◌, ◌⊎◌, ◌<◌, length, false
 ghost use Rattle.std.specs.List.{All, Contains};
 ghost use Rattle.esc_term.specs.declared.formula.Formula.TheVariants as formula;
 ghost use Rattle.esc_trail.specs.Undo.{Notes};
-ghost use Rattle.esc_egraph.specs.Graph.{IsGraph};
+ghost use Rattle.esc_egraph.specs.Graph.{IsGraph, number_of};
 ghost use Rattle.esc_distinct.specs.Groups.{AreBroken};
 ghost use Rattle.esc_branch.specs.BranchUndo.{branch_undo};
 ghost use Rattle.esc_branch.specs.Steps.{Asserted, IsClosedBy};
@@ -17,8 +17,9 @@ use esc_trail::Trail;
 use std::alloc::AllocError;
 
 impl Branch {
-    /// Asserts that two terms are equal, or that they are not: Closed where the branch says the contrary, or where the
-    /// literal leaves no classes that agree with all literals. Where the branch says it already, nothing changes.
+    /// Asserts that two terms are equal, or that they are not: Closed where the branch says the
+    /// contrary, or where the literal leaves no classes that agree with all literals. Where the
+    /// branch says it already, nothing changes.
     pub fn assert_equal(
         &mut self,
         left: &Term,
@@ -29,9 +30,14 @@ impl Branch {
         requires branch { IsBranch self.old }
         requires left_in_play { Contains (terms_in self.old) left.now }
         requires right_in_play { Contains (terms_in self.old) right.now }
-        ensures open { result ≡ Ok State.Open → Asserted self.old self.new (record { formula = formula.Eq left.now right.now; positive = positive }) }
-        ensures closed { result ≡ Ok State.Closed → IsClosedBy self.old (record { formula = formula.Eq left.now right.now; positive = positive }) }
-        ensures undo { Notes branch_undo (λ rec. rec) trail.old.records trail.new.records self.old self.new }
+        ensures open { result ≡ Ok State.Open →
+            Asserted self.old self.new
+            (record { formula = formula.Eq left.now right.now; positive = positive }) }
+        ensures closed { result ≡ Ok State.Closed →
+            IsClosedBy self.old
+            (record { formula = formula.Eq left.now right.now; positive = positive }) }
+        ensures undo { Notes branch_undo
+            (λ rec. rec) trail.old.records trail.new.records self.old self.new }
     {
         let said = self.said_equal(left, right);
         if positive {
@@ -60,9 +66,13 @@ impl Branch {
     ) -> Result<State, AllocError>
         requires branch { IsBranch self.old }
         requires in_play { All (Contains (terms_in self.old)) terms.now }
-        ensures open { result ≡ Ok State.Open → Asserted self.old self.new (record { formula = formula.Distinct terms.now; positive = true }) }
-        ensures closed { result ≡ Ok State.Closed → IsClosedBy self.old (record { formula = formula.Distinct terms.now; positive = true }) }
-        ensures undo { Notes branch_undo (λ rec. rec) trail.old.records trail.new.records self.old self.new }
+        ensures open { result ≡ Ok State.Open →
+            Asserted self.old self.new
+            (record { formula = formula.Distinct terms.now; positive = true }) }
+        ensures closed { result ≡ Ok State.Closed →
+            IsClosedBy self.old (record { formula = formula.Distinct terms.now; positive = true }) }
+        ensures undo { Notes branch_undo
+            (λ rec. rec) trail.old.records trail.new.records self.old self.new }
     {
         let said = self.said_distinct(terms);
         if said.holds {
@@ -85,9 +95,14 @@ impl Branch {
         requires left_in_play { Contains (terms_in self.old) left.now }
         requires right_in_play { Contains (terms_in self.old) right.now }
         requires unsaid { (cover_in self.old (formula.Eq left.now right.now)).holds ≡ false }
-        ensures open { result ≡ Ok State.Open → Asserted self.old self.new (record { formula = formula.Eq left.now right.now; positive = true }) }
-        ensures closed { result ≡ Ok State.Closed → IsClosedBy self.old (record { formula = formula.Eq left.now right.now; positive = true }) }
-        ensures undo { Notes branch_undo (λ rec. rec) trail.old.records trail.new.records self.old self.new }
+        ensures open { result ≡ Ok State.Open →
+            Asserted self.old self.new
+            (record { formula = formula.Eq left.now right.now; positive = true }) }
+        ensures closed { result ≡ Ok State.Closed →
+            IsClosedBy self.old
+            (record { formula = formula.Eq left.now right.now; positive = true }) }
+        ensures undo { Notes branch_undo
+            (λ rec. rec) trail.old.records trail.new.records self.old self.new }
     {
         let a = self.node(left);
         let b = self.node(right);
@@ -108,9 +123,14 @@ impl Branch {
         requires left_in_play { Contains (terms_in self.old) left.now }
         requires right_in_play { Contains (terms_in self.old) right.now }
         requires unsaid { (cover_in self.old (formula.Eq left.now right.now)).fails ≡ false }
-        ensures open { result ≡ Ok State.Open → Asserted self.old self.new (record { formula = formula.Eq left.now right.now; positive = false }) }
-        ensures closed { result ≡ Ok State.Closed → IsClosedBy self.old (record { formula = formula.Eq left.now right.now; positive = false }) }
-        ensures undo { Notes branch_undo (λ rec. rec) trail.old.records trail.new.records self.old self.new }
+        ensures open { result ≡ Ok State.Open →
+            Asserted self.old self.new
+            (record { formula = formula.Eq left.now right.now; positive = false }) }
+        ensures closed { result ≡ Ok State.Closed →
+            IsClosedBy self.old
+            (record { formula = formula.Eq left.now right.now; positive = false }) }
+        ensures undo { Notes branch_undo
+            (λ rec. rec) trail.old.records trail.new.records self.old self.new }
     {
         let a = self.node(left);
         let b = self.node(right);
@@ -125,9 +145,13 @@ impl Branch {
         requires branch { IsBranch self.old }
         requires in_play { All (Contains (terms_in self.old)) terms.now }
         requires unsaid { (cover_in self.old (formula.Distinct terms.now)).holds ≡ false }
-        ensures open { result ≡ Ok State.Open → Asserted self.old self.new (record { formula = formula.Distinct terms.now; positive = true }) }
-        ensures closed { result ≡ Ok State.Closed → IsClosedBy self.old (record { formula = formula.Distinct terms.now; positive = true }) }
-        ensures undo { Notes branch_undo (λ rec. rec) trail.old.records trail.new.records self.old self.new }
+        ensures open { result ≡ Ok State.Open →
+            Asserted self.old self.new
+            (record { formula = formula.Distinct terms.now; positive = true }) }
+        ensures closed { result ≡ Ok State.Closed →
+            IsClosedBy self.old (record { formula = formula.Distinct terms.now; positive = true }) }
+        ensures undo { Notes branch_undo
+            (λ rec. rec) trail.old.records trail.new.records self.old self.new }
     {
         let group = self.nodes(terms)?;
         let literal = self.distinction(terms)?;
@@ -139,8 +163,10 @@ impl Branch {
     /// Closed where a class holds two places of a group, and else as it is.
     fn settled(&self, state: State) -> State
         requires members { All (All (λ n. n < length self.now.graph.nodes)) self.now.groups }
-        ensures open { result ≡ State.Open → (state ≡ State.Open) × (AreBroken self.now.graph.classes self.now.groups → ⊥) }
-        ensures closed { result ≡ State.Closed → (state ≡ State.Closed) ⊎ AreBroken self.now.graph.classes self.now.groups }
+        ensures open { result ≡ State.Open →
+            (state ≡ State.Open) × (AreBroken (number_of self.now.graph) self.now.groups → ⊥) }
+        ensures closed { result ≡ State.Closed →
+            (state ≡ State.Closed) ⊎ AreBroken (number_of self.now.graph) self.now.groups }
         ensures graph { IsGraph self.now.graph }
     {
         graph_is_sound(&self.graph);

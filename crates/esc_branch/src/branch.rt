@@ -12,7 +12,8 @@ use esc_term::{Formula, Head, Sym};
 use esc_trail::{Trail, Undoable};
 use std::alloc::{AllocError, Global};
 
-/// The terms in play with their classes, the distinctions that hold, and the literals in the order of assertion.
+/// The terms in play with their classes, the distinctions that hold, and the literals in the order
+/// of assertion.
 #[derive(Drop)]
 pub struct Branch {
     pub(crate) alloc: Global,

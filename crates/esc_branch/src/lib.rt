@@ -1,4 +1,5 @@
-//! One branch of a search: the terms in play with their classes, the distinctions and the literals, on one undo stack.
+//! One branch of a search: the terms in play with their classes, the distinctions and the literals,
+//! on one undo stack.
 #![tactic(auto)]
 
 mod asserting;
@@ -13,6 +14,3 @@ mod starting;
 pub use branch::Branch;
 pub use record::BranchRec;
 pub use said::Said;
-
-#[cfg(test)]
-mod tests;

@@ -18,7 +18,8 @@ impl Branch {
         right: &Term,
         positive: bool,
     ) -> Result<Item, AllocError>
-        ensures { IfOk result (λ item. item ≡ record { formula = formula.Eq left.now right.now; positive = positive }) }
+        ensures { IfOk result (λ item.
+            item ≡ record { formula = formula.Eq left.now right.now; positive = positive }) }
     {
         let left = left.copy(self.alloc)?;
         let right = right.copy(self.alloc)?;
@@ -30,7 +31,8 @@ impl Branch {
 
     /// The literal that terms at any two places differ.
     pub(crate) fn distinction(&self, terms: &[Term]) -> Result<Item, AllocError>
-        ensures { IfOk result (λ item. item ≡ record { formula = formula.Distinct terms.now; positive = true }) }
+        ensures { IfOk result
+            (λ item. item ≡ record { formula = formula.Distinct terms.now; positive = true }) }
     {
         let terms = self.copies(terms)?;
         Ok(Item {
@@ -56,9 +58,11 @@ impl Branch {
         literal: Item,
         trail: &mut Trail<BranchRec>,
     ) -> Result<(), AllocError>
-        ensures ok { OnOk result (self.new ≡ record self.old { literals = self.old.literals ++ literal ∷ [] }) }
+        ensures ok { OnOk result
+            (self.new ≡ record self.old { literals = self.old.literals ++ literal ∷ [] }) }
         ensures err { OnErr result (self.new ≡ self.old) }
-        ensures undo { Notes branch_undo (λ rec. rec) trail.old.records trail.new.records self.old self.new }
+        ensures undo { Notes branch_undo
+            (λ rec. rec) trail.old.records trail.new.records self.old self.new }
     {
         trail.reserve(1)?;
         self.literals.push(literal)?;

@@ -24,7 +24,8 @@ impl Branch {
     /// The nodes of terms in play.
     pub(crate) fn nodes(&self, terms: &[Term]) -> Result<Vec<Node>, AllocError>
         requires { All (Contains (terms_in self.now)) terms.now }
-        ensures there { IfOk result (λ nodes. All (λ n. n < length self.now.graph.nodes) nodes.items) }
+        ensures there { IfOk result
+            (λ nodes. All (λ n. n < length self.now.graph.nodes) nodes.items) }
         ensures terms { IfOk result (λ nodes. map (term_at self.now) nodes.items ≡ terms.now) }
     {
         let mut nodes = Vec::new(self.alloc);

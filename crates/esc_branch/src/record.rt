@@ -1,7 +1,8 @@
 use esc_distinct::{CarriesGroups, GroupRec};
 use esc_egraph::{CarriesNodes, EgraphRec};
 
-/// What takes one change of a branch back: a record of one of its parts, or that the last literal was added.
+/// What takes one change of a branch back: a record of one of its parts, or that the last literal
+/// was added.
 #[derive(Clone, Copy)]
 pub enum BranchRec {
     Nodes(EgraphRec),

@@ -5,6 +5,7 @@ ghost use Rattle.std.specs.List.{list_all, list_any};
 ghost use Rattle.esc_term.specs.declared.formula.Formula.TheVariants as formula;
 ghost use Rattle.esc_cover.specs.Classes.{together};
 ghost use Rattle.esc_cover.specs.Cover.{every_two, is_forced_apart, some_two};
+ghost use Rattle.esc_egraph.specs.Graph.{number_of};
 ghost use Rattle.esc_distinct.specs.Groups.{AreApart};
 ghost use Rattle.esc_egraph.specs.Congruence.{ForcedApart};
 ghost use Rattle.esc_branch.specs.View.{IsBranch, classes_in, cover_in, literals_in, term_at};
@@ -74,8 +75,10 @@ impl Said {
 
     /// What is said of one formula exactly where the other holds.
     fn iff(self, other: Said) -> Said
-        ensures holds { result.holds ≡ ((self.holds && other.holds) || (self.fails && other.fails)) }
-        ensures fails { result.fails ≡ ((self.holds && other.fails) || (self.fails && other.holds)) }
+        ensures holds { result.holds
+            ≡ ((self.holds && other.holds) || (self.fails && other.fails)) }
+        ensures fails { result.fails
+            ≡ ((self.holds && other.fails) || (self.fails && other.holds)) }
     {
         Said {
             holds: (self.holds && other.holds) || (self.fails && other.fails),
@@ -158,8 +161,10 @@ impl Branch {
         requires branch { IsBranch self.now }
         requires a_is_there { a < length self.now.graph.nodes }
         requires b_is_there { b < length self.now.graph.nodes }
-        ensures holds { result.holds ≡ together (classes_in self.now) (term_at self.now a) (term_at self.now b) }
-        ensures fails { result.fails ≡ is_forced_apart (literals_in self.now) (classes_in self.now) (term_at self.now a) (term_at self.now b) }
+        ensures holds { result.holds ≡ together (classes_in self.now) (term_at self.now a)
+            (term_at self.now b) }
+        ensures fails { result.fails ≡ is_forced_apart (literals_in self.now) (classes_in self.now)
+            (term_at self.now a) (term_at self.now b) }
     {
         if self.graph.same(a, b) {
             return Said::HOLDS;
@@ -175,7 +180,9 @@ impl Branch {
         requires branch { IsBranch self.now }
         requires a_is_there { a < length self.now.graph.nodes }
         requires b_is_there { b < length self.now.graph.nodes }
-        ensures { IsTrue result ↔ (ForcedApart self.now.graph a b ⊎ AreApart self.now.graph.classes self.now.groups a b) }
+        ensures { IsTrue result ↔
+            (ForcedApart self.now.graph a b ⊎ AreApart
+            (number_of self.now.graph) self.now.groups a b) }
     {
         self.graph.forced_apart(a, b) || self.groups.apart(&self.graph, a, b)
     }
@@ -183,7 +190,8 @@ impl Branch {
     /// What the branch says of a distinction.
     pub(crate) fn said_distinct(&self, terms: &[Term]) -> Said
         requires branch { IsBranch self.now }
-        ensures holds { result.holds ≡ every_two (is_forced_apart (literals_in self.now) (classes_in self.now)) terms.now }
+        ensures holds { result.holds
+            ≡ every_two (is_forced_apart (literals_in self.now) (classes_in self.now)) terms.now }
         ensures fails { result.fails ≡ some_two (together (classes_in self.now)) terms.now }
     {
         let mut said = Said::HOLDS;
@@ -196,8 +204,11 @@ impl Branch {
     /// What the branch says of a term's being unlike each of others.
     fn said_unlike(&self, term: &Term, others: &[Term]) -> Said
         requires branch { IsBranch self.now }
-        ensures holds { result.holds ≡ list_all (is_forced_apart (literals_in self.now) (classes_in self.now) term.now) others.now }
-        ensures fails { result.fails ≡ list_any (together (classes_in self.now) term.now) others.now }
+        ensures holds { result.holds
+            ≡ list_all (is_forced_apart (literals_in self.now) (classes_in self.now) term.now)
+            others.now }
+        ensures fails { result.fails
+            ≡ list_any (together (classes_in self.now) term.now) others.now }
     {
         let mut said = Said::HOLDS;
         'others: for other in others {

@@ -6,7 +6,7 @@ ghost use Rattle.esc_term.specs.Formula.{is_closed, terms_of};
 ghost use Rattle.esc_term.specs.Term.{is_ground, subterms, with_once};
 ghost use Rattle.esc_nodes.specs.Nodes.{shape};
 ghost use Rattle.esc_nodes.specs.Terms.{built};
-ghost use Rattle.esc_branch.specs.Starting.{AreNodesOf, IsBare};
+ghost use Rattle.esc_branch.specs.StartingInside.{AreNodesOf, IsBare};
 ghost use Rattle.esc_branch.specs.View.{term_at, terms_in};
 
 use crate::branch::Branch;
@@ -44,7 +44,8 @@ impl Branch {
         requires bare { IsBare self.old }
         requires closed { IsTrue (is_closed formula.now) }
         ensures bare { OnOk result (IsBare self.new) }
-        ensures terms { OnOk result (terms_in self.new ≡ fold with_once (terms_in self.old) (terms_of formula.now)) }
+        ensures terms { OnOk result
+            (terms_in self.new ≡ fold with_once (terms_in self.old) (terms_of formula.now)) }
     {
         match formula {
             Formula::True | Formula::False | Formula::Forall(_) | Formula::Exists(_) => Ok(()),
@@ -78,7 +79,9 @@ impl Branch {
         requires bare { IsBare self.old }
         requires closed { IsTrue (list_all is_closed formulas.now) }
         ensures bare { OnOk result (IsBare self.new) }
-        ensures terms { OnOk result (terms_in self.new ≡ fold with_once (terms_in self.old) (flat_map terms_of formulas.now)) }
+        ensures terms { OnOk result
+            (terms_in self.new ≡ fold with_once (terms_in self.old)
+            (flat_map terms_of formulas.now)) }
     {
         'formulas: for formula in formulas {
             self.add_formula(formula, trail)?;
@@ -93,7 +96,8 @@ impl Branch {
         requires bare { IsBare self.old }
         requires ground { IsTrue (is_ground term.now) }
         ensures bare { OnOk result (IsBare self.new) }
-        ensures terms { OnOk result (terms_in self.new ≡ fold with_once (terms_in self.old) (subterms term.now)) }
+        ensures terms { OnOk result
+            (terms_in self.new ≡ fold with_once (terms_in self.old) (subterms term.now)) }
         ensures there { IfOk result (λ n. n < length self.new.graph.nodes) }
         ensures node { IfOk result (λ n. term_at self.new n ≡ term.now) }
     {
@@ -117,8 +121,10 @@ impl Branch {
         requires bare { IsBare self.old }
         requires ground { IsTrue (list_all is_ground terms.now) }
         ensures bare { OnOk result (IsBare self.new) }
-        ensures terms { OnOk result (terms_in self.new ≡ fold with_once (terms_in self.old) (flat_map subterms terms.now)) }
-        ensures nodes { IfOk result (λ nodes. AreNodesOf self.new.graph.nodes nodes.items terms.now) }
+        ensures terms { OnOk result
+            (terms_in self.new ≡ fold with_once (terms_in self.old) (flat_map subterms terms.now)) }
+        ensures nodes { IfOk result
+            (λ nodes. AreNodesOf self.new.graph.nodes nodes.items terms.now) }
     {
         let mut nodes = Vec::new(self.alloc);
         'terms: for term in terms {
@@ -138,9 +144,13 @@ impl Branch {
         requires bare { IsBare self.old }
         requires args_are_there { All (λ a. a < length self.old.graph.nodes) args.now }
         ensures bare { OnOk result (IsBare self.new) }
-        ensures terms { OnOk result (terms_in self.new ≡ with_once (terms_in self.old) (built (term_at self.old) (shape top args.now).top (shape top args.now).args)) }
+        ensures terms { OnOk result
+            (terms_in self.new ≡ with_once (terms_in self.old)
+            (built (term_at self.old) (shape top args.now).top (shape top args.now).args)) }
         ensures there { IfOk result (λ n. n < length self.new.graph.nodes) }
-        ensures node { IfOk result (λ n. term_at self.new n ≡ built (term_at self.old) (shape top args.now).top (shape top args.now).args) }
+        ensures node { IfOk result
+            (λ n. term_at self.new n ≡ built (term_at self.old) (shape top args.now).top
+            (shape top args.now).args) }
     {
         let node = self.graph.node(top, args, trail)?;
         graph_is_sound(&self.graph);

@@ -1,7 +1,6 @@
-use Rattle.std.proofs.Common.{◌≡◌, take}
-use Rattle.std.specs.List.{filter}
-use Rattle.esc_branch.specs.View.{same_in, term_at, terms_in}
+use Rattle.std.proofs.Common.{◌≡◌, map, take}
+use Rattle.esc_branch.specs.View.{term_at}
 use Rattle.esc_branch.proofs.branch.Branch.class_of.Given as goal
 
-abbrev pub invariant-nodes : goal.invariant-nodes
-invariant-nodes l = l.terms ≡ filter (same_in l.fn.self (term_at l.fn.self l.node)) (take l.index (terms_in l.fn.self))
+abbrev pub invariant-members : goal.invariant-members
+invariant-members l = l.terms ≡ map (term_at l.self) (take l.member-index l.members)

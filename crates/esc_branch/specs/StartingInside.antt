@@ -2,10 +2,11 @@
 use Rattle.std.specs.Prelude.{◌≡◌, ℕ, ◌<◌, List, [], length, map}
 use Rattle.std.specs.List.{All}
 use Rattle.esc_term.specs.declared.term.Term.{Term}
-use Rattle.esc_classes.specs.Classes.{SameClass}
+use Rattle.esc_union.specs.Merges.{SameClass}
 use Rattle.esc_nodes.specs.Nodes.{Shape}
 use Rattle.esc_nodes.specs.Terms.{term_of}
 use Rattle.esc_egraph.specs.Congruence.{IsMet}
+use Rattle.esc_egraph.specs.Graph.{number_of}
 use Rattle.esc_branch.specs.declared.branch.Branch.{Branch}
 use Rattle.esc_branch.specs.View.{literals_in}
 
@@ -20,4 +21,5 @@ pub record IsBare (v : Branch) : Type 0 where
   pub groups : v.groups ≡ []
   pub forbidden : v.graph.forbidden ≡ []
   pub met : IsMet v.graph
-  pub apart : (a b : ℕ) → a < length v.graph.nodes → b < length v.graph.nodes → SameClass v.graph.classes a b → a ≡ b
+  pub apart : (a b : ℕ) → a < length v.graph.nodes → b < length v.graph.nodes →
+      SameClass (number_of v.graph) a b → a ≡ b
