@@ -10,10 +10,12 @@ use Rattle.esc_assume.proofs.SizeLevels.{size-And, size-Or, size-Not, size-Impli
 pub falls-Not : (whole f : Formula) → whole ≡ Not f → 2 * size f < 2 * size whole
 falls-Not whole f e = omega (arith, ap size e, size-Not f)
 
-pub falls-And : (whole : Formula) (fs : List Formula) → whole ≡ And fs → 1 + 2 * sum (map size fs) < 2 * size whole
+pub falls-And : (whole : Formula) (fs : List Formula) → whole ≡ And fs → 1 + 2 * sum (map size fs)
+    < 2 * size whole
 falls-And whole fs e = omega (arith, ap size e, size-And fs, sum-more (map size fs))
 
-pub falls-Or : (whole : Formula) (fs : List Formula) → whole ≡ Or fs → 1 + 2 * sum (map size fs) < 2 * size whole
+pub falls-Or : (whole : Formula) (fs : List Formula) → whole ≡ Or fs → 1 + 2 * sum (map size fs)
+    < 2 * size whole
 falls-Or whole fs e = omega (arith, ap size e, size-Or fs, sum-more (map size fs))
 
 pub falls-Implies-left : (whole f g : Formula) → whole ≡ Implies f g → 2 * size f < 2 * size whole
@@ -23,5 +25,6 @@ pub falls-Implies-right : (whole f g : Formula) → whole ≡ Implies f g → 2 
 falls-Implies-right whole f g e = omega (arith, ap size e, size-Implies f g)
 
 -- one of a list
-pub falls-item : (fs : List Formula) (i : ℕ) (f : Formula) → i < length fs → f ≡ get_or fs i f → 2 * size f < 1 + 2 * sum (map size fs)
+pub falls-item : (fs : List Formula) (i : ℕ) (f : Formula) → i < length fs → f ≡ get_or fs i f
+    → 2 * size f < 1 + 2 * sum (map size fs)
 falls-item fs i f h e = omega (arith, ap size e, get_or-le-sum_by size fs i f h, sum-map size fs)

@@ -6,5 +6,4 @@ pub mod ListLemmas
 pub mod Parts
 pub mod SizeLevels
 pub mod Split
-pub mod SupportedLevels
 pub mod Taken

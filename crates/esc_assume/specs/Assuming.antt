@@ -1,5 +1,5 @@
 -- What it does to assume several signed formulas in order, and to add a clause.
-use Rattle.std.specs.Prelude.{◌≡◌, ◌≤◌, Bool, IsTrue, List, [], ◌∷◌, ◌++◌, length, map, take, Result, Ok}
+use Rattle.std.specs.Prelude.{◌≡◌, Bool, List, [], ◌∷◌, ◌++◌, length, map, take, Result, Ok}
 use Rattle.std.specs.List.{All}
 use Rattle.esc_term.specs.declared.formula.Formula.{Formula}
 use Rattle.esc_term.specs.declared.formula.Item.{Item}
@@ -9,12 +9,10 @@ use Rattle.esc_egraph.specs.declared.state.State.{State}
 use Rattle.esc_egraph.specs.declared.state.State.TheVariants.{Open, Closed}
 use Rattle.esc_cover.specs.Laws.{HoldsIn}
 use Rattle.esc_branch.specs.BranchUndo.{branch_undo}
-use Rattle.esc_branch.specs.Steps.{Extends, covers}
 use Rattle.esc_branch.specs.View.{IsBranch, literals_in, terms_in}
 use Rattle.esc_branch.specs.declared.branch.Branch.{Branch}
-use Rattle.esc_assume.specs.Assumed.{HoldsAlong}
-use Rattle.esc_assume.specs.Clauses.{AreWithin, IsCovered, IsWithin}
-use Rattle.esc_assume.specs.Sizes.{clauses_size, side_size}
+use Rattle.esc_assume.specs.Assumed.{Assumed}
+use Rattle.esc_assume.specs.Clauses.{IsAmong}
 use Rattle.esc_assume.specs.Views.{clauses_in}
 use Rattle.esc_assume.specs.declared.context.Context.{Context}
 
@@ -32,20 +30,7 @@ sides_signed positive = map (λ f. signed positive f ∷ [])
 pub record IsReady (v : Branch) (items : List Item) : Type 0 where
   pub branch : IsBranch v
   pub atoms : List Formula
-  pub within : All (IsWithin (terms_in v) atoms) items
-
--- signed formulas were assumed in order, and the branch stays open
-pub record AssumedAll (old new : Context) (items : List Item) : Type 0 where
-  pub branch : IsBranch new.branch
-  pub extends : Extends old.branch new.branch
-  pub added : List (List (List Item))
-  pub clauses : clauses_in new ≡ clauses_in old ++ added
-  pub sound : (M : Model) → All (HoldsIn M) (literals_in old.branch) → All (HoldsIn M) items → HoldsAlong M new.branch added
-  pub complete : (w : Branch) → IsBranch w → Extends new.branch w → All (IsCovered w) added → All (λ item. IsTrue (covers w item)) items
-  pub light : clauses_size added ≤ side_size items
-  pub within : (atoms : List Formula) → All (IsWithin (terms_in old.branch) atoms) items → AreWithin (terms_in old.branch) atoms added
-  pub literals : (atoms : List Formula) → All (IsWithin (terms_in old.branch) atoms) items
-      → All (IsWithin (terms_in old.branch) atoms) (literals_in old.branch) → All (IsWithin (terms_in old.branch) atoms) (literals_in new.branch)
+  pub within : All (IsAmong (terms_in v) atoms) items
 
 -- no model of the literals gives all of the formulas their signs
 abbrev pub AreClosedBy : Branch → List Item → Type 0
@@ -53,17 +38,20 @@ AreClosedBy v items = (M : Model) → All (HoldsIn M) (literals_in v) → All (H
 
 -- a call that takes the branch and the clauses on can be undone
 pub record CanBeUndone (old new : Context) : Type 0 where
-  pub undo : Notes branch_undo (λ rec. rec) old.trail.records new.trail.records old.branch new.branch
+  pub undo : Notes branch_undo (λ rec. rec) old.trail.records new.trail.records old.branch
+      new.branch
   pub kept : take (length (clauses_in old)) (clauses_in new) ≡ clauses_in old
 
 -- a call that assumes signed formulas in order, by what it answers
-pub record Assumes {E : Type 0} (old new : Context) (result : Result State E) (items : List Item) : Type 0 where
-  pub opened : result ≡ Ok Open → AssumedAll old new items
+pub record Assumes {E : Type 0} (old new : Context) (result : Result State E)
+    (items : List Item) : Type 0 where
+  pub opened : result ≡ Ok Open → Assumed old new items
   pub closed : result ≡ Ok Closed → AreClosedBy old.branch items
   pub undone : CanBeUndone old new
 
 -- a call that adds a clause and answers that the branch stays open, or changes nothing
-pub record AddsClause {E : Type 0} (old new : Context) (result : Result State E) (sides : List (List Item)) : Type 0 where
+pub record AddsClause {E : Type 0} (old new : Context) (result : Result State E)
+    (sides : List (List Item)) : Type 0 where
   pub branch : new.branch ≡ old.branch
   pub trail : new.trail.records ≡ old.trail.records
   pub added : result ≡ Ok Open → clauses_in new ≡ clauses_in old ++ sides ∷ []

@@ -2,5 +2,4 @@ pub mod Assumed
 pub mod Assuming
 pub mod Clauses
 pub mod Sizes
-pub mod Supported
 pub mod Views

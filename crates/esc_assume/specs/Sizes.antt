@@ -4,7 +4,7 @@ use Rattle.esc_term.specs.declared.formula.Formula.{Formula}
 use Rattle.esc_term.specs.declared.formula.Formula.TheOpen.{Formula-F}
 use Rattle.esc_term.specs.declared.formula.Formula.TheFolds.{fold-Formula}
 use Rattle.esc_term.specs.declared.formula.Item.{Item}
-use Rattle.esc_cover.specs.Counterexample.{pair_equations}
+use Rattle.esc_cover.specs.Atoms.{pair_equations}
 
 -- one more than the parts together, and one for each
 abbrev pub size_of_parts : List ℕ → ℕ

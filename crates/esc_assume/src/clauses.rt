@@ -1,7 +1,7 @@
 //! Clauses are added where one of several sides is to hold.
 
 ghost use Rattle.std.specs.Prelude.{◌≡◌, true, false, [], ◌∷◌, map};
-ghost use Rattle.esc_cover.specs.Counterexample.{pair_equations};
+ghost use Rattle.esc_cover.specs.Atoms.{pair_equations};
 ghost use Rattle.esc_assume.specs.Assuming.{AddsClause, sides_signed, signed};
 ghost use Rattle.esc_assume.specs.Views.{items_of};
 
@@ -27,7 +27,8 @@ impl<'f> Context<'f> {
 
     /// The terms at some two places are to be equal.
     pub(crate) fn add_pairs(&mut self, terms: &'f [Term]) -> Result<State, AllocError>
-        ensures { AddsClause self.old self.new result (sides_signed true (pair_equations terms.now)) }
+        ensures { AddsClause self.old self.new result
+            (sides_signed true (pair_equations terms.now)) }
     {
         let sides = pair_sides(self.alloc, terms)?;
         self.add_clause(sides)
@@ -39,7 +40,8 @@ impl<'f> Context<'f> {
         left: &'f Formula,
         right: &'f Formula,
     ) -> Result<State, AllocError>
-        ensures { AddsClause self.old self.new result ((signed false left.now ∷ []) ∷ (signed true right.now ∷ []) ∷ []) }
+        ensures { AddsClause self.old self.new result ((signed false left.now ∷ [])
+            ∷ (signed true right.now ∷ []) ∷ []) }
     {
         let fails = Side::one(Signed::whole(left, false));
         let holds = Side::one(Signed::whole(right, true));
@@ -52,7 +54,9 @@ impl<'f> Context<'f> {
         left: &'f Formula,
         right: &'f Formula,
     ) -> Result<State, AllocError>
-        ensures { AddsClause self.old self.new result ((signed false left.now ∷ signed false right.now ∷ []) ∷ (signed true left.now ∷ signed true right.now ∷ []) ∷ []) }
+        ensures { AddsClause self.old self.new result
+            ((signed false left.now ∷ signed false right.now ∷ [])
+            ∷ (signed true left.now ∷ signed true right.now ∷ []) ∷ []) }
     {
         let both_fail = Side::two(Signed::whole(left, false), Signed::whole(right, false));
         let both_hold = Side::two(Signed::whole(left, true), Signed::whole(right, true));
@@ -65,7 +69,9 @@ impl<'f> Context<'f> {
         left: &'f Formula,
         right: &'f Formula,
     ) -> Result<State, AllocError>
-        ensures { AddsClause self.old self.new result ((signed true left.now ∷ signed false right.now ∷ []) ∷ (signed false left.now ∷ signed true right.now ∷ []) ∷ []) }
+        ensures { AddsClause self.old self.new result
+            ((signed true left.now ∷ signed false right.now ∷ [])
+            ∷ (signed false left.now ∷ signed true right.now ∷ []) ∷ []) }
     {
         let left_holds = Side::two(Signed::whole(left, true), Signed::whole(right, false));
         let right_holds = Side::two(Signed::whole(left, false), Signed::whole(right, true));
@@ -73,7 +79,8 @@ impl<'f> Context<'f> {
     }
 
     fn add_either(&mut self, first: Side<'f>, second: Side<'f>) -> Result<State, AllocError>
-        ensures { AddsClause self.old self.new result (items_of first.entry ∷ items_of second.entry ∷ []) }
+        ensures { AddsClause self.old self.new result (items_of first.entry
+            ∷ items_of second.entry ∷ []) }
     {
         let mut sides = Vec::new(self.alloc);
         sides.push(first)?;

@@ -10,7 +10,7 @@ ghost use Rattle.esc_branch.specs.Steps.{IsClosedBy};
 ghost use Rattle.esc_branch.specs.View.{IsBranch, terms_in};
 ghost use Rattle.esc_assume.specs.Assumed.{Assumed};
 ghost use Rattle.esc_assume.specs.Assuming.{Assumes, IsReady, all_signed, signed};
-ghost use Rattle.esc_assume.specs.Supported.{is_supported};
+ghost use Rattle.esc_report.specs.Supported.{is_supported};
 ghost use Rattle.esc_assume.specs.Views.{clauses_in, item_of};
 
 use crate::signed::{Clause, Part, Signed};
@@ -30,16 +30,22 @@ pub struct Context<'f> {
 }
 
 impl<'f> Context<'f> {
-    /// Assumes what is signed: its parts are assumed or asserted in order, and where one of several is to hold, a clause
-    /// of them is added. Closed where a part is asserted whose contrary the branch says, or that leaves it no classes.
+    /// Assumes what is signed: its parts are assumed or asserted in order, and where one of several
+    /// is to hold, a clause of them is added. Closed where a part is asserted whose contrary the
+    /// branch says, or that leaves it no classes.
     pub fn assume(&mut self, signed: Signed<'f>) -> Result<State, AllocError>
         requires branch { IsBranch self.old.branch }
-        requires in_play { All (Contains (terms_in self.old.branch)) (terms_of (item_of signed).formula) }
+        requires in_play { All (Contains (terms_in self.old.branch))
+            (terms_of (item_of signed).formula) }
         requires supported { IsTrue (is_supported (item_of signed).formula) }
-        ensures open { result ≡ Ok State.Open → Assumed self.old self.new (item_of signed.entry) }
-        ensures closed { result ≡ Ok State.Closed → IsClosedBy self.old.branch (item_of signed.entry) }
-        ensures undo { Notes branch_undo (λ rec. rec) self.old.trail.records self.new.trail.records self.old.branch self.new.branch }
-        ensures kept { take (length (clauses_in self.old)) (clauses_in self.new) ≡ clauses_in self.old }
+        ensures open { result ≡ Ok State.Open → Assumed self.old self.new
+            (item_of signed.entry ∷ []) }
+        ensures closed { result ≡ Ok State.Closed → IsClosedBy self.old.branch
+            (item_of signed.entry) }
+        ensures undo { Notes branch_undo (λ rec. rec) self.old.trail.records self.new.trail.records
+            self.old.branch self.new.branch }
+        ensures kept { take (length (clauses_in self.old)) (clauses_in self.new)
+            ≡ clauses_in self.old }
     {
         match signed.part {
             Part::Whole(formula) => self.assume_whole(formula, signed.positive),
@@ -103,7 +109,8 @@ impl<'f> Context<'f> {
         positive: bool,
     ) -> Result<State, AllocError>
         requires { IsReady self.old.branch (signed positive (formula.Eq left.now right.now) ∷ []) }
-        ensures { Assumes self.old self.new result (signed positive (formula.Eq left.now right.now) ∷ []) }
+        ensures { Assumes self.old self.new result
+            (signed positive (formula.Eq left.now right.now) ∷ []) }
     {
         self.branch
             .assert_equal(left, right, positive, &mut self.trail)

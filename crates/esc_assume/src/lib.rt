@@ -5,8 +5,6 @@ mod clauses;
 mod context;
 mod sides;
 mod signed;
-mod supported;
 
 pub use context::Context;
 pub use signed::{Clause, Part, Side, Signed};
-pub use supported::is_supported;

@@ -2,7 +2,7 @@
 
 ghost use Rattle.std.specs.Prelude.{◌≡◌, ◌++◌, true, IfOk, OnOk, map};
 ghost use Rattle.esc_term.specs.declared.formula.Formula.TheVariants as formula;
-ghost use Rattle.esc_cover.specs.Counterexample.{pair_equations};
+ghost use Rattle.esc_cover.specs.Atoms.{pair_equations};
 ghost use Rattle.esc_assume.specs.Assuming.{sides_signed};
 ghost use Rattle.esc_assume.specs.Views.{items_of};
 
@@ -27,7 +27,8 @@ pub(crate) fn part_sides<'f>(
 
 /// A side for the equation of each two places: those of the first with each later one come first.
 pub(crate) fn pair_sides<'f>(alloc: Global, terms: &'f [Term]) -> Result<Vec<Side<'f>>, AllocError>
-    ensures { IfOk result (λ sides. map items_of sides.items ≡ sides_signed true (pair_equations terms.now)) }
+    ensures { IfOk result (λ sides. map items_of sides.items
+        ≡ sides_signed true (pair_equations terms.now)) }
 {
     let mut sides = Vec::new(alloc);
     let mut rest = terms;
@@ -44,7 +45,8 @@ fn push_pairs<'f>(
     first: &'f Term,
     later: &'f [Term],
 ) -> Result<(), AllocError>
-    ensures { OnOk result (map items_of sides.new.items ≡ map items_of sides.old.items ++ sides_signed true (map (λ t. formula.Eq first.now t) later.now)) }
+    ensures { OnOk result (map items_of sides.new.items ≡ map items_of sides.old.items
+        ++ sides_signed true (map (λ t. formula.Eq first.now t) later.now)) }
 {
     for second in later {
         sides.push(Side::one(Signed::equal(first, second)))?;

@@ -6,4 +6,5 @@ use Rattle.esc_assume.proofs.sides.push_pairs.Given as goal
 
 abbrev pub invariant-loop-second : goal.invariant-loop-second
 invariant-loop-second l =
-    map items_of l.sides.items ≡ map items_of l.fn.sides.items ++ sides_signed true (map (λ t. formula.Eq l.first t) (take l.second-index l.later))
+    map items_of l.sides.items ≡ map items_of l.fn.sides.items
+    ++ sides_signed true (map (λ t. formula.Eq l.first t) (take l.second-index l.later))

@@ -1,5 +1,6 @@
 use Rattle.std.proofs.Common.{◌+◌, ◌*◌, map, sum, take}
-use Rattle.esc_assume.specs.Assuming.{AssumedAll, CanBeUndone, all_signed}
+use Rattle.esc_assume.specs.Assumed.{Assumed}
+use Rattle.esc_assume.specs.Assuming.{CanBeUndone, all_signed}
 use Rattle.esc_assume.specs.Sizes.{size}
 use Rattle.esc_assume.proofs.context.Context.+assume.Given as goal
 
@@ -11,6 +12,6 @@ decreases-assume_all l = 1 + 2 * sum (map size l.formulas.now)
 
 abbrev pub invariant-assume_all-formulas : goal.invariant-assume_all-formulas
 invariant-assume_all-formulas l = record {
-  assumed : AssumedAll l.fn.self l.self (all_signed l.positive (take l.formula-index l.formulas));
+  assumed : Assumed l.fn.self l.self (all_signed l.positive (take l.formula-index l.formulas));
   undone : CanBeUndone l.fn.self l.self;
 }

@@ -6,4 +6,5 @@ pub assert_distinct-requires-clause-in_play : goal.assert_distinct-requires-clau
 assert_distinct-requires-clause-in_play c = all_in_play _ _ _ c.requires
 
 pub returns : goal.returns
-returns c = literal_answers _ _ _ _ c.assert_distinct.ensures.open c.assert_distinct.ensures.closed c.assert_distinct.ensures.undo refl
+returns c = literal_answers _ _ _ _ c.assert_distinct.ensures.open c.assert_distinct.ensures.closed
+    c.assert_distinct.ensures.undo refl

@@ -9,4 +9,5 @@ pub assert_equal-requires-clause-right_in_play : goal.assert_equal-requires-clau
 assert_equal-requires-clause-right_in_play c = right_in_play _ _ _ _ c.requires
 
 pub returns : goal.returns
-returns c = literal_answers _ _ _ _ c.assert_equal.ensures.open c.assert_equal.ensures.closed c.assert_equal.ensures.undo refl
+returns c = literal_answers _ _ _ _ c.assert_equal.ensures.open c.assert_equal.ensures.closed
+    c.assert_equal.ensures.undo refl
