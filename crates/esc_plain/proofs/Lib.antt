@@ -1,6 +1,5 @@
 pub mod SideItems
 pub mod Coverage
-pub mod Free
 pub mod Growth
 pub mod NegatedGoal
 pub mod Opening

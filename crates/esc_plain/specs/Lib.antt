@@ -1,4 +1,3 @@
 pub mod Search
 pub mod Stage
 pub mod Steps
-pub mod Verdicts

@@ -7,7 +7,3 @@ mod reading;
 mod searching;
 
 pub use deciding::{Verdict, decide};
-pub use esc_assume::is_supported;
-
-#[cfg(test)]
-mod tests;

@@ -7,7 +7,7 @@ ghost use Rattle.esc_assume.specs.Clauses.{IsCovered};
 ghost use Rattle.esc_assume.specs.Views.{clauses_in, contrary, item_of, items_of, sides_of};
 ghost use Rattle.esc_plain.specs.Search.{ArePassed};
 ghost use Rattle.esc_plain.specs.Stage.{stage_of};
-ghost use Rattle.esc_plain.specs.Steps.{AllCovered};
+ghost use Rattle.esc_plain.specs.Steps.{AreCovered};
 
 use esc_assume::{Clause, Context, Part, Side, Signed};
 use esc_branch::Branch;
@@ -40,7 +40,7 @@ fn covers(branch: &Branch, signed: Signed<'_>) -> bool
 /// Whether the branch covers all that stands on a side.
 pub fn covers_side(branch: &Branch, side: Side<'_>) -> bool
     requires { IsBranch branch.now }
-    ensures { IsTrue result → AllCovered branch.now (items_of side.entry) }
+    ensures { IsTrue result → AreCovered branch.now (items_of side.entry) }
 {
     if !covers(branch, side.first) {
         return false;
@@ -54,7 +54,8 @@ pub fn covers_side(branch: &Branch, side: Side<'_>) -> bool
 /// Whether the branch covers the contrary of something that stands on a side.
 pub fn is_hopeless(branch: &Branch, side: Side<'_>) -> bool
     requires { IsBranch branch.now }
-    ensures { IsTrue result → Any (λ item. IsTrue (covers branch.now (contrary item))) (items_of side.entry) }
+    ensures { IsTrue result → Any (λ item. IsTrue (covers branch.now (contrary item)))
+        (items_of side.entry) }
 {
     if covers(branch, contrary(side.first)) {
         return true;

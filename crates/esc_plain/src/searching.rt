@@ -1,14 +1,14 @@
 //! The search through the clauses of a context.
 //!
-//! Each split that is open takes room on the stack, which is memory too: so a number of splits that may still be opened
-//! goes down with each, and at none left the answer is want of memory.
+//! Each split that is open takes room on the stack, which is memory too: so a number of splits that
+//! may still be opened goes down with each, and at none left the answer is want of memory.
 
 ghost use Rattle.std.specs.Prelude.{◌≡◌, ◌<◌, ◌≤◌, Ok, [], drop, length, slice_index_or, take};
 ghost use Rattle.esc_trail.specs.Undo.{CanRewind, rewind};
 ghost use Rattle.esc_branch.specs.BranchUndo.{branch_undo};
 ghost use Rattle.esc_assume.specs.Views.{clauses_in, items_of};
 ghost use Rattle.esc_plain.specs.Search.{IsRefuted, StaysOpen, clause_at};
-ghost use Rattle.esc_plain.specs.Stage.{IsReady, LeadsBack, stage_of};
+ghost use Rattle.esc_plain.specs.Stage.{MayAssume, LeadsBack, stage_of};
 
 use crate::assuming::{assume_side, deny_side};
 use crate::reading::{first_unsatisfied, is_hopeless, is_satisfied};
@@ -35,8 +35,10 @@ fn nth_side<'f>(context: &Context<'f>, at: usize, number: usize) -> Side<'f>
 /// Takes back all that was done since the mark was set, when there were so many clauses.
 fn go_back(context: &mut Context<'_>, mark: Mark, count: usize)
     requires within { mark ≤ length context.old.trail.records }
-    requires undoable { CanRewind branch_undo context.old.branch (drop mark context.old.trail.records) }
-    ensures branch { context.new.branch ≡ rewind branch_undo context.old.branch (drop mark context.old.trail.records) }
+    requires undoable { CanRewind branch_undo context.old.branch
+        (drop mark context.old.trail.records) }
+    ensures branch { context.new.branch ≡ rewind branch_undo context.old.branch
+        (drop mark context.old.trail.records) }
     ensures records { context.new.trail.records ≡ take mark context.old.trail.records }
     ensures clauses { clauses_in context.new ≡ take count (clauses_in context.old) }
 {
@@ -47,11 +49,13 @@ fn go_back(context: &mut Context<'_>, mark: Mark, count: usize)
 /// Looks for a branch on which the clauses from a place on hold.
 #[cycle(search)]
 fn explore<'f>(context: &mut Context<'f>, at: usize, splits_left: u32) -> Result<State, AllocError>
-    requires ready { IsReady [] (stage_of context.old) }
+    requires ready { MayAssume [] (stage_of context.old) }
     requires within { at ≤ length (clauses_in context.old) }
-    ensures open { result ≡ Ok State.Open → StaysOpen [] (stage_of context.old) (stage_of context.new) at }
+    ensures open { result ≡ Ok State.Open → StaysOpen [] (stage_of context.old)
+        (stage_of context.new) at }
     ensures closed { result ≡ Ok State.Closed → IsRefuted [] (stage_of context.old) at }
-    ensures back { result ≡ Ok State.Closed → LeadsBack (stage_of context.old) (stage_of context.new) }
+    ensures back { result ≡ Ok State.Closed → LeadsBack (stage_of context.old)
+        (stage_of context.new) }
 {
     let Some(place) = first_unsatisfied(context, at) else {
         return Ok(State::Open);
@@ -62,14 +66,17 @@ fn explore<'f>(context: &mut Context<'f>, at: usize, splits_left: u32) -> Result
     split(context, place, splits_left - 1)
 }
 
-/// Tries the sides of a clause in order. A side that closed its branch fails from then on, which may satisfy the clause.
+/// Tries the sides of a clause in order. A side that closed its branch fails from then on, which
+/// may satisfy the clause.
 #[cycle(search)]
 fn split<'f>(context: &mut Context<'f>, at: usize, splits_left: u32) -> Result<State, AllocError>
-    requires ready { IsReady [] (stage_of context.old) }
+    requires ready { MayAssume [] (stage_of context.old) }
     requires clause { at < length (clauses_in context.old) }
-    ensures open { result ≡ Ok State.Open → StaysOpen [] (stage_of context.old) (stage_of context.new) at }
+    ensures open { result ≡ Ok State.Open → StaysOpen [] (stage_of context.old)
+        (stage_of context.new) at }
     ensures closed { result ≡ Ok State.Closed → IsRefuted [] (stage_of context.old) at }
-    ensures back { result ≡ Ok State.Closed → LeadsBack (stage_of context.old) (stage_of context.new) }
+    ensures back { result ≡ Ok State.Closed → LeadsBack (stage_of context.old)
+        (stage_of context.new) }
 {
     'sides: for number in 0..side_count(context, at) {
         let side = nth_side(context, at, number);
@@ -89,7 +96,8 @@ fn split<'f>(context: &mut Context<'f>, at: usize, splits_left: u32) -> Result<S
     Ok(State::Closed)
 }
 
-/// Looks for a branch on which a side and the clauses from a place on hold. Where there is none, the context is as before.
+/// Looks for a branch on which a side and the clauses from a place on hold. Where there is none,
+/// the context is as before.
 #[cycle(search)]
 fn try_side<'f>(
     context: &mut Context<'f>,
@@ -97,10 +105,12 @@ fn try_side<'f>(
     side: Side<'f>,
     splits_left: u32,
 ) -> Result<State, AllocError>
-    requires ready { IsReady (items_of side) (stage_of context.old) }
+    requires ready { MayAssume (items_of side) (stage_of context.old) }
     requires within { next ≤ length (clauses_in context.old) }
-    ensures open { result ≡ Ok State.Open → StaysOpen (items_of side.entry) (stage_of context.old) (stage_of context.new) next }
-    ensures closed { result ≡ Ok State.Closed → IsRefuted (items_of side.entry) (stage_of context.old) next }
+    ensures open { result ≡ Ok State.Open → StaysOpen (items_of side.entry) (stage_of context.old)
+        (stage_of context.new) next }
+    ensures closed { result ≡ Ok State.Closed → IsRefuted (items_of side.entry)
+        (stage_of context.old) next }
     ensures back { result ≡ Ok State.Closed → stage_of context.new ≡ stage_of context.old }
 {
     let mark = context.trail.mark();
@@ -120,11 +130,14 @@ pub fn explore_with<'f>(
     side: Side<'f>,
     splits_left: u32,
 ) -> Result<State, AllocError>
-    requires ready { IsReady (items_of side) (stage_of context.old) }
+    requires ready { MayAssume (items_of side) (stage_of context.old) }
     requires within { next ≤ length (clauses_in context.old) }
-    ensures open { result ≡ Ok State.Open → StaysOpen (items_of side.entry) (stage_of context.old) (stage_of context.new) next }
-    ensures closed { result ≡ Ok State.Closed → IsRefuted (items_of side.entry) (stage_of context.old) next }
-    ensures back { result ≡ Ok State.Closed → LeadsBack (stage_of context.old) (stage_of context.new) }
+    ensures open { result ≡ Ok State.Open → StaysOpen (items_of side.entry) (stage_of context.old)
+        (stage_of context.new) next }
+    ensures closed { result ≡ Ok State.Closed → IsRefuted (items_of side.entry)
+        (stage_of context.old) next }
+    ensures back { result ≡ Ok State.Closed → LeadsBack (stage_of context.old)
+        (stage_of context.new) }
 {
     match assume_side(context, side)? {
         State::Closed => Ok(State::Closed),

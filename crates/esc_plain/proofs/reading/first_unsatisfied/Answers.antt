@@ -15,10 +15,13 @@ pub loop-place-preserved : goal.loop-place-preserved
 loop-place-preserved c =
     let clauses = c.args.context.now.clauses.items in
     let there : c.loop-place.place < length clauses =
-    omega (arith, c.loop-place-test.true, c.len-place-end.ensures, c.args.context.now.clauses.ok.0) in
-    passed_more (stage_of c.args.context.now) c.args.at c.loop-place.place (omega (arith, there, length-map clauses sides_of)) c.loop-place.invariant
+    omega (arith, c.loop-place-test.true, c.len-place-end.ensures, c.args.context.now.clauses.ok.0)
+    in
+    passed_more (stage_of c.args.context.now) c.args.at c.loop-place.place
+    (omega (arith, there, length-map clauses sides_of)) c.loop-place.invariant
     (subst (λ (sides : List (List Item)). IsCovered c.args.context.now.branch sides)
-    (ap sides_of c.index.ensures ∙ sym (get_or-map sides_of clauses c.loop-place.place c.index.result.now [] there))
+    (ap sides_of c.index.ensures ∙ sym (get_or-map sides_of clauses c.loop-place.place
+    c.index.result.now [] there))
     (c.is_satisfied.ensures c.if-not-is_satisfied.false))
 
 pub returns : goal.returns

@@ -13,6 +13,7 @@ returns-then-covers_side c t =
       items_of side,
       omega (arith, there, length-map sides items_of),
       get_or-map items_of sides c.loop-side.side-index side (items_of side) there
-          ∙ ap items_of (ap (λ xs. get_or xs c.loop-side.side-index side) (sym c.deref-side-items.ensures.value) ∙ sym c.side-item.is),
+          ∙ ap items_of (ap (λ xs. get_or xs c.loop-side.side-index side)
+          (sym c.deref-side-items.ensures.value) ∙ sym c.side-item.is),
       c.covers_side.ensures c.if-covers_side.true,
     )

@@ -4,7 +4,8 @@ use Rattle.esc_plain.specs.Stage.{stage_of}
 use Rattle.esc_plain.proofs.Splitting.{Splitting}
 use Rattle.esc_plain.proofs.searching.+search.Given as goal
 
--- the number of splits that may still be opened, four times, so that the functions can call each other in turn
+-- the number of splits that may still be opened, four times, so that the functions can call each
+-- other in turn
 abbrev pub decreases-split : goal.decreases-split
 decreases-split l = 4 * l.splits_left + 3
 
@@ -18,4 +19,5 @@ abbrev pub decreases-explore : goal.decreases-explore
 decreases-explore l = 4 * l.splits_left
 
 abbrev pub invariant-split-sides : goal.invariant-split-sides
-invariant-split-sides l = Splitting (stage_of l.fn.context) (stage_of l.context) l.at (drop l.number (clause_at (stage_of l.fn.context) l.at))
+invariant-split-sides l = Splitting (stage_of l.fn.context) (stage_of l.context) l.at
+    (drop l.number (clause_at (stage_of l.fn.context) l.at))
