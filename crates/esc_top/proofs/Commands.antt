@@ -1,64 +1,56 @@
--- What is read of an expression, and how it is answered.
-use Rattle.std.proofs.Common.{◌≡◌, ℕ, ◌+◌, true, false, IsTrue, List, Some, Ok, Err, refl, ap, ◌∙◌}
-use Rattle.std.specs.Prelude.{not}
+-- How an expression that was read is answered.
+use Rattle.std.proofs.Common.{◌≡◌, ℕ, ◌+◌, Bool, true, false, inl, List, Ok, refl, sym, subst}
 use Rattle.esc_sexp.specs.declared.sexp.Sexp.{Sexp}
-use Rattle.esc_read.specs.Reading.{Numbering, Outcome, Reads, and_then, give, ◌>>=◌}
-use Rattle.esc_read.specs.Tokens.{head_of, place_of}
+use Rattle.esc_term.specs.declared.formula.Formula.{Formula}
+use Rattle.esc_read.specs.declared.fault.FormKind.{FormKind}
 use Rattle.esc_form.specs.declared.command.Command.{Command}
 use Rattle.esc_form.specs.declared.command.Kind.{Kind}
-use Rattle.esc_form.specs.Commands.{command, kind_by, order_of}
 use Rattle.esc_form.specs.declared.command.Kind.TheVariants as kind
-use Rattle.esc_term.specs.declared.formula.Formula.{Formula}
-use Rattle.esc_assume.specs.Supported.{is_supported}
+use Rattle.esc_report.specs.Supported.{is_supported}
+use Rattle.esc_report.specs.declared.report.Refusal.TheVariants.{Form, Unsupported}
 use Rattle.esc_report.specs.declared.report.Report.{Report}
 use Rattle.esc_report.specs.declared.report.Report.TheVariants as report
-use Rattle.esc_report.specs.declared.report.Refusal.TheVariants.{Unsupported}
-use Rattle.esc_top.specs.Answers.{Answers, IsCommand, IsNextGoal, Reports, is_unsupported}
+use Rattle.esc_answers.specs.Answers.{AnswersGoal, AnswersKind, AnswersWhere}
+use Rattle.esc_answers.specs.State.{State, asked}
+use Rattle.esc_top.specs.Answers.{AnswersExpression, ReadsAs}
+use Rattle.esc_top.specs.Progress.{limits_of_run}
 
--- a command stands where its expression does
-placed : (place : ℕ) (what : Outcome Kind) (c : Command) → and_then {B = Command} what (λ k. Ok (record { place = place; kind = k })) ≡ Ok c
-    → and_then {B = Command} what (λ k. Ok (record { place = place; kind = k })) ≡ Ok (record { place = place; kind = c.kind })
-placed place (Ok k) c is =
-    let same : record { place = place; kind = k } ≡ c = cc in
-    let kinds : k ≡ c.kind = ap (λ (d : Command). d.kind) same in
-    ap (λ (x : Kind). let d : Command = record { place = place; kind = x } in Ok d) kinds
-placed place (Err fault) c is = cc
+-- a goal is not refused for its form
+goal_well_formed : (b : Bool) (s t : State) (place at : ℕ) (f : Formula) (what : FormKind)
+    → AnswersWhere b limits_of_run s place f (report.Refused at (Form what)) t → ⊥
+goal_well_formed true s t place at f what h = h.0
+goal_well_formed false s t place at f what h = let clash = h.0 in cc
 
-pub command_at : (e : Sexp) (number : Numbering) (c : Command) → command e number ≡ Ok c → command e number ≡ Ok (record { place = place_of e; kind = c.kind })
-unfolding command ◌>>=◌ give
-command_at e number c is = placed (place_of e) (kind_by (order_of (head_of e)) e number) c is
+-- no command is
+well_formed : (s t : State) (place at : ℕ) (k : Kind) (what : FormKind)
+    → AnswersKind limits_of_run s place k (report.Refused at (Form what)) t → ⊥
+well_formed s t place at (kind.Goal f) what h = goal_well_formed (is_supported f) s t place at
+    f what h
+well_formed s t place at (kind.Push fs) what h = let clash = h.0 in cc
+well_formed s t place at kind.Pop what h = let clash = h.0 in cc
+well_formed s t place at (kind.Define name count name_place rule) what h = let clash = h.0 in cc
+well_formed s t place at kind.Prompt what h = let clash = h.0 in cc
 
--- what is read is that command
-pub is_command : (before after : List (List ℕ)) (e : Sexp) (c : Command) → Reads before after (Ok c) (command e) → IsCommand after e c.kind
-is_command before after e c reads = λ number numbers. command_at e number c (reads.told number numbers)
+pub expression_answered : (names : List (List ℕ)) (s t : State) (e : Sexp) (c : Command)
+    (r : Report) → ReadsAs names e (Ok c)
+    → AnswersKind limits_of_run s c.place c.kind r t → AnswersExpression limits_of_run names s e r t
+expression_answered names s t e c (report.Refused at (Form what)) reads h = absurd
+    (well_formed s t c.place at c.kind what h)
+expression_answered names s t e c (report.Refused at Unsupported) reads h = inl (c, reads, h)
+expression_answered names s t e c (report.Valid n formulas) reads h = inl (c, reads, h)
+expression_answered names s t e c (report.Invalid n found) reads h = inl (c, reads, h)
+expression_answered names s t e c (report.Memory n at) reads h = inl (c, reads, h)
+expression_answered names s t e c report.Done reads h = inl (c, reads, h)
 
--- ---- answers
+-- ---- goals
 
--- a goal whose form is not answered
-pub refuses_goal : (names : List (List ℕ)) (goals place : ℕ) (e : Sexp) (f : Formula) → IsCommand names e (kind.Goal f) → is_supported f ≡ false → place ≡ place_of e
-    → Answers names goals e (report.Refused place Unsupported) goals
-refuses_goal names goals place e f is_goal other there = (kind.Goal f, is_goal, ap not other, there, refl)
+pub goal_answered : (s t : State) (place : ℕ) (f : Formula) (r : Report) → is_supported f ≡ true
+    → AnswersGoal limits_of_run f (s.goals + 1) place r → t ≡ asked s
+    → AnswersKind limits_of_run s place (kind.Goal f) r t
+goal_answered s t place f r is answers counted = subst
+    (λ (b : Bool). AnswersWhere b limits_of_run s place f r t) (sym is) (answers, counted)
 
-next_goal : (names : List (List ℕ)) (goals goal now : ℕ) (e : Sexp) (f : Formula) → IsCommand names e (kind.Goal f) → IsTrue (is_supported f) → goal ≡ goals + 1 → now ≡ goals + 1
-    → IsNextGoal names goals e f goal now
-next_goal names goals goal now e f is_goal supported is counted = record { is_goal = is_goal; supported = supported; number = is; counted = counted }
-
-pub answers_goal : (names : List (List ℕ)) (goals goal now : ℕ) (e : Sexp) (f : Formula) (r : Report) → IsCommand names e (kind.Goal f) → IsTrue (is_supported f) → goal ≡ goals + 1 → now ≡ goals + 1
-    → Reports goal f r → Answers names goals e r now
-answers_goal names goals goal now e f (report.Valid number formulas) is_goal supported is counted h =
-    (f, next_goal names goals number now e f is_goal supported (h.0 ∙ is) counted, h.1)
-answers_goal names goals goal now e f (report.Invalid number found) is_goal supported is counted h =
-    (f, next_goal names goals number now e f is_goal supported (h.0 ∙ is) counted, h.1)
-answers_goal names goals goal now e f (report.Refused place why) is_goal supported is counted h = absurd h
-answers_goal names goals goal now e f (report.Memory number place) is_goal supported is counted h = absurd h
-answers_goal names goals goal now e f report.Done is_goal supported is counted h = absurd h
-
--- want of memory in answering a goal
-pub lacks_memory : (names : List (List ℕ)) (goals goal now place : ℕ) (e : Sexp) (f : Formula) → IsCommand names e (kind.Goal f) → IsTrue (is_supported f) → goal ≡ goals + 1 → now ≡ goals + 1
-    → place ≡ place_of e → Answers names goals e (report.Memory (Some goal) place) now
-lacks_memory names goals goal now place e f is_goal supported is counted there = (there, (f, next_goal names goals goal now e f is_goal supported is counted))
-
--- a command that is not answered yet
-pub refuses_command : (names : List (List ℕ)) (goals place : ℕ) (e : Sexp) (what : Kind) → IsCommand names e what → is_unsupported what ≡ true → place ≡ place_of e
-    → Answers names goals e (report.Refused place Unsupported) goals
-refuses_command names goals place e what is other there = (what, is, other, there, refl)
+pub goal_refused : (s : State) (place : ℕ) (f : Formula) → is_supported f ≡ false
+    → AnswersKind limits_of_run s place (kind.Goal f) (report.Refused place Unsupported) s
+goal_refused s place f is = subst (λ (b : Bool). AnswersWhere b limits_of_run s place f
+    (report.Refused place Unsupported) s) (sym is) (refl, refl)

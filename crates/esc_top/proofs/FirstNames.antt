@@ -16,14 +16,18 @@ pub first_distinct : HasDistinctRows first_names
 unfolding front
 first_distinct zero zero text h k = refl
 first_distinct zero (suc zero) text h k = absurd (apart 64116 115101 (ap front (h ∙ sym k)) refl)
-first_distinct zero (suc (suc zero)) text h k = absurd (apart 64116 115116 (ap front (h ∙ sym k)) refl)
+first_distinct zero (suc (suc zero)) text h k = absurd
+    (apart 64116 115116 (ap front (h ∙ sym k)) refl)
 first_distinct zero (suc (suc (suc j))) text h k = cc
 first_distinct (suc zero) zero text h k = absurd (apart 115101 64116 (ap front (h ∙ sym k)) refl)
 first_distinct (suc zero) (suc zero) text h k = refl
-first_distinct (suc zero) (suc (suc zero)) text h k = absurd (apart 115101 115116 (ap front (h ∙ sym k)) refl)
+first_distinct (suc zero) (suc (suc zero)) text h k = absurd
+    (apart 115101 115116 (ap front (h ∙ sym k)) refl)
 first_distinct (suc zero) (suc (suc (suc j))) text h k = cc
-first_distinct (suc (suc zero)) zero text h k = absurd (apart 115116 64116 (ap front (h ∙ sym k)) refl)
-first_distinct (suc (suc zero)) (suc zero) text h k = absurd (apart 115116 115101 (ap front (h ∙ sym k)) refl)
+first_distinct (suc (suc zero)) zero text h k = absurd
+    (apart 115116 64116 (ap front (h ∙ sym k)) refl)
+first_distinct (suc (suc zero)) (suc zero) text h k = absurd
+    (apart 115116 115101 (ap front (h ∙ sym k)) refl)
 first_distinct (suc (suc zero)) (suc (suc zero)) text h k = refl
 first_distinct (suc (suc zero)) (suc (suc (suc j))) text h k = cc
 first_distinct (suc (suc (suc i))) j text h k = cc

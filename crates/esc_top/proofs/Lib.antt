@@ -1,5 +1,9 @@
 pub mod Commands
+pub mod Complete
 pub mod FirstNames
+pub mod ProgressLemmas
+pub mod RanLemmas
 pub mod ReadingLemmas
+pub mod StatusLemmas
 pub mod ToldLemmas
 pub mod UnderwayLemmas

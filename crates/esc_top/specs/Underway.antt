@@ -1,5 +1,5 @@
 -- What stands between the steps of a run.
-use Rattle.std.specs.Prelude.{◌≡◌, ◌≢◌, ℕ, ◌+◌, ◌<◌, ◌≤◌, Bool, true, ◌&&◌, if◌then◌else◌, IsTrue, List, [], ◌∷◌, ◌++◌, length, Option, None, Result, Ok, Err}
+use Rattle.std.specs.Prelude.{◌≡◌, ◌≢◌, ℕ, ◌+◌, ◌<◌, ◌≤◌, Bool, true, ◌&&◌, if◌then◌else◌, List, [], ◌∷◌, ◌++◌, length, Option, None, Result, Ok, Err}
 use Rattle.std.specs.Io.KnownBytes.{IsAtEnd}
 use Rattle.esc_io.specs.Faults.{Rose}
 use Rattle.esc_io.specs.Putting.{Grows, GrowsByFront, Puts}
@@ -10,12 +10,14 @@ use Rattle.esc_sexp.specs.Grammar.{Finds, FirstFault, IsBlankText}
 use Rattle.esc_sexp.specs.Unread.{ReadsAlike, Unread}
 use Rattle.esc_report.specs.declared.report.Report.{Report}
 use Rattle.esc_report.specs.Text.{report_text}
-use Rattle.esc_top.specs.Answers.{Answers}
+use Rattle.esc_answers.specs.State.{State}
+use Rattle.esc_top.specs.Answers.{AnswersExpression}
+use Rattle.esc_top.specs.Progress.{Progress, limits_of_run}
 use Rattle.esc_top.specs.Ran.{IsCounted, IsReadTo}
-use Rattle.esc_names.specs.Numbering.{first_names}
+use Rattle.esc_read.specs.Reading.{Extends}
 use Rattle.esc_names.specs.Rows.{HasDistinctRows}
 use Rattle.esc_top.specs.Reading.{BeginsAs, max_input}
-use Rattle.esc_top.specs.Told.{Told, AnswersAll, Grown, all_proved, is_proved_report, texts}
+use Rattle.esc_top.specs.Told.{all_proved, is_proved_report, texts}
 use Rattle.esc_top.specs.declared.desk.Desk.{Desk}
 use Rattle.esc_top.specs.declared.input.Feeding.{Feeding}
 use Rattle.esc_top.specs.declared.input.Feeding.TheVariants as feeding
@@ -24,92 +26,85 @@ use Rattle.esc_top.specs.declared.input.Stop.TheVariants as stop
 use Rattle.esc_top.specs.declared.status.Status.{Status}
 use Rattle.esc_top.specs.declared.status.Status.TheVariants.{Proved, Answered, BadWords, WriteFault, TooMuch}
 
--- what the reader has before it says nothing against these: an end of the text that it has been told
-abbrev pub Agrees : Bool → Bool → List ℕ → Type 0
-Agrees told finished more = told ≡ true → (finished ≡ true) × (more ≡ [])
+-- where the reader was told that the text ends, it ends
+abbrev pub KeepsEnd : Bool → Bool → List ℕ → Type 0
+KeepsEnd told finished more = told ≡ true → (finished ≡ true) × (more ≡ [])
 
--- Behind these expressions of the bytes that were taken stands what reads like what the reader has before it, whatever
--- follows.
+-- Behind these expressions of the bytes that were taken stands what reads like what the reader has
+-- before it, whatever follows.
 abbrev pub GoesOnBehind : List ℕ → List Sexp → Unread → Type 0
-GoesOnBehind taken es unread = (finished : Bool) (more : List ℕ) → Agrees unread.finished finished more
-    → (after : ℕ) × (stand : List ℕ) × BeginsAs finished 0 (taken ++ more) es after stand × ReadsAlike finished after stand unread.place (unread.bytes ++ more)
+GoesOnBehind taken es unread = (finished : Bool) (more : List ℕ)
+    → KeepsEnd unread.finished finished more
+    → (after : ℕ) × (stand : List ℕ) × BeginsAs finished 0 (taken ++ more) es after stand
+    × ReadsAlike finished after stand unread.place (unread.bytes ++ more)
+
+abbrev pub state_of : Desk → State
+state_of desk = record { goals = desk.goals }
 
 -- the expressions so far are answered and the texts of the answers are written
-pub record Underway (left rest written now : Option (List ℕ)) (unread : Unread) (desk : Desk) : Type 0 where
-  pub taken : List ℕ
-  pub expressions : List Sexp
-  pub told : List Told
-  pub consumed : Takes left rest taken
-  pub at_end : unread.finished ≡ true → IsAtEnd rest
+pub record Underway (left rest written now : Option (List ℕ)) (unread : Unread)
+    (desk : Desk) : Type 0 where
+  pub progress : Progress left rest
+  pub ended : progress.ended ≡ unread.finished
   pub untold : unread.fault ≡ None
-  pub behind : GoesOnBehind taken expressions unread
-  pub reached : unread.place + length unread.bytes ≡ length taken
-  pub within : length taken ≤ max_input
-  pub distinct : HasDistinctRows desk.names
-  pub answers : AnswersAll first_names 0 expressions told desk.names desk.goals
-  pub clean : desk.all_proved ≡ all_proved told
-  pub grown : Grows written now (texts told)
+  pub behind : GoesOnBehind progress.taken progress.expressions unread
+  pub reached : unread.place + length unread.bytes ≡ length progress.taken
+  pub within : length progress.taken ≤ max_input
+  pub names : progress.names ≡ desk.names
+  pub state : progress.state ≡ state_of desk
+  pub clean : desk.all_proved ≡ all_proved progress.told
+  pub grown : Grows written now (texts progress.told)
 
--- the reader has no further whole expression before it and no fault, and nothing but blanks where the bytes are all
+-- the reader has no further whole expression before it and no fault, and nothing but blanks where
+-- the bytes are all
 pub record IsHungry (unread : Unread) : Type 0 where
-  pub no_further : (e : Sexp) (after : ℕ) (rest : List ℕ) → Finds unread.finished unread.place unread.bytes e after rest → ⊥
+  pub no_further : (e : Sexp) (after : ℕ) (rest : List ℕ)
+      → Finds unread.finished unread.place unread.bytes e after rest → ⊥
   pub no_fault : (f : SexpFault) → FirstFault unread.finished unread.place unread.bytes f → ⊥
   pub blank : unread.finished ≡ true → IsBlankText unread.bytes
 
 -- a status is reached, and all but the last line is written
 pub record Reached (left rest written now : Option (List ℕ)) (status : Status) : Type 0 where
-  pub taken : List ℕ
-  pub ended : Bool
-  pub expressions : List Sexp
-  pub told : List Told
-  pub names : List (List ℕ)
-  pub goals : ℕ
-  pub consumed : Takes left rest taken
-  pub at_end : IsTrue ended → IsAtEnd rest
-  pub distinct : HasDistinctRows names
-  pub answers : AnswersAll first_names 0 expressions told names goals
-  pub read : IsReadTo status ended taken expressions told
-  pub within : status ≢ TooMuch → length taken ≤ max_input
+  pub progress : Progress left rest
+  pub read : IsReadTo status progress.ended progress.taken progress.expressions progress.told
+  pub within : status ≢ TooMuch → length progress.taken ≤ max_input
   pub no_write_fault : status ≢ WriteFault
   pub no_bad_words : status ≢ BadWords
-  pub grown : Grows written now (texts told)
+  pub grown : Grows written now (texts progress.told)
 
 -- a write failed: a front of the texts is written
 pub record Broken (left rest written now : Option (List ℕ)) : Type 0 where
-  pub taken : List ℕ
-  pub ended : Bool
-  pub expressions : List Sexp
-  pub told : List Told
-  pub names : List (List ℕ)
-  pub goals : ℕ
-  pub consumed : Takes left rest taken
-  pub at_end : IsTrue ended → IsAtEnd rest
-  pub distinct : HasDistinctRows names
-  pub answers : AnswersAll first_names 0 expressions told names goals
-  pub read : IsReadTo WriteFault ended taken expressions told
-  pub within : length taken ≤ max_input
-  pub front : GrowsByFront written now (texts told)
+  pub progress : Progress left rest
+  pub read : IsReadTo WriteFault progress.ended progress.taken progress.expressions progress.told
+  pub within : length progress.taken ≤ max_input
+  pub front : GrowsByFront written now (texts progress.told)
 
-abbrev pub Came : {E : Type 0} → Option (List ℕ) → Option (List ℕ) → Option (List ℕ) → Option (List ℕ) → Result Status E → Type 0
+abbrev pub Came : {E : Type 0} → Option (List ℕ) → Option (List ℕ) → Option (List ℕ)
+    → Option (List ℕ) → Result Status E → Type 0
 Came left rest written now (Ok status) = Reached left rest written now status
 Came left rest written now (Err e) = Broken left rest written now
 
 -- there were words that are not understood, and nothing was read or written
-abbrev pub IsUnread : {E : Type 0} → Option (List ℕ) → Option (List ℕ) → Option (List ℕ) → Option (List ℕ) → Result Status E → Type 0
+abbrev pub IsUnread : {E : Type 0} → Option (List ℕ) → Option (List ℕ) → Option (List ℕ)
+    → Option (List ℕ) → Result Status E → Type 0
 IsUnread left rest written now result = (result ≡ Ok BadWords) × (rest ≡ left) × (now ≡ written)
 
 -- what answering the whole expressions comes to
-abbrev pub Stops : {E : Type 0} → Option (List ℕ) → Option (List ℕ) → Option (List ℕ) → Option (List ℕ) → Unread → Desk → Result Stop E → Type 0
-Stops left rest written now unread desk (Ok stop.Hungry) = Underway left rest written now unread desk × IsHungry unread
-Stops left rest written now unread desk (Ok (stop.Ended status)) = Reached left rest written now status
+abbrev pub Stops : {E : Type 0} → Option (List ℕ) → Option (List ℕ) → Option (List ℕ)
+    → Option (List ℕ) → Unread → Desk → Result Stop E → Type 0
+Stops left rest written now unread desk (Ok stop.Hungry) =
+    Underway left rest written now unread desk × IsHungry unread
+Stops left rest written now unread desk (Ok (stop.Ended status)) =
+    Reached left rest written now status
 Stops left rest written now unread desk (Err e) = Broken left rest written now
 
 -- one expression is answered, and the text of the answer is written or a front of it
-pub record AnswersOne {E : Type 0} (old new : Desk) (e : Sexp) (written now : Option (List ℕ)) (result : Result (Unit {0}) E) : Type 0 where
+pub record AnswersOne {E : Type 0} (old new : Desk) (e : Sexp) (written now : Option (List ℕ))
+    (result : Result (Unit {0}) E) : Type 0 where
   pub report : Report
-  pub names : Grown old.names new.names
+  pub names : Extends old.names new.names
   pub distinct : HasDistinctRows new.names
-  pub answers : Answers new.names old.goals e report new.goals
+  pub answers : AnswersExpression limits_of_run new.names (state_of old) e report (state_of new)
   pub clean : new.all_proved ≡ (old.all_proved && is_proved_report report)
   pub few : new.goals ≤ old.goals + 1
   pub put : Puts written now result (report_text new.names report)
@@ -117,11 +112,14 @@ pub record AnswersOne {E : Type 0} (old new : Desk) (e : Sexp) (written now : Op
 -- what a piece that is read brings, where so many bytes more may be read
 abbrev pub Feeds : Option (List ℕ) → Option (List ℕ) → Unread → Unread → ℕ → Feeding → Type 0
 Feeds left rest old new room (feeding.Fed count) =
-    (bytes : List ℕ) × Takes left rest bytes × (length bytes ≡ count) × (0 < count) × (count ≤ room) × (new ≡ record old { bytes = old.bytes ++ bytes })
+    (bytes : List ℕ) × Takes left rest bytes × (length bytes ≡ count) × (0 < count) ×
+    (count ≤ room) × (new ≡ record old { bytes = old.bytes ++ bytes })
 Feeds left rest old new room feeding.AtEnd = Takes left rest [] × IsAtEnd rest × (new ≡ old)
 Feeds left rest old new room feeding.ReadFault = Takes left rest [] × (new ≡ old)
-Feeds left rest old new room feeding.TooMuch = (byte : ℕ) × Takes left rest (byte ∷ []) × (room ≡ 0) × (new ≡ old)
-Feeds left rest old new room feeding.Memory = (bytes : List ℕ) × Takes left rest bytes × (length bytes ≤ room) × (new ≡ old)
+Feeds left rest old new room feeding.TooMuch = (byte : ℕ) × Takes left rest (byte ∷ [])
+    × (room ≡ 0) × (new ≡ old)
+Feeds left rest old new room feeding.Memory = (bytes : List ℕ) × Takes left rest bytes
+    × (length bytes ≤ room) × (new ≡ old)
 
 -- the source's count of faults stands, and rises where a read failed
 abbrev pub IsToldByCount : Feeding → ℕ → ℕ → Type 0

@@ -1,30 +1,36 @@
 //! Answers expressions one by one.
 
-ghost use Rattle.std.specs.Prelude.{◌≡◌, ◌+◌, ◌<◌, ◌≤◌, ◌^◌, [], ◌∷◌, true, IfOk, IsTrue};
+ghost use Rattle.std.specs.Prelude.{◌≡◌, ◌+◌, ◌<◌, ◌≤◌, ◌^◌, ℕ, true, IfOk, IsTrue};
 ghost use Rattle.esc_io.specs.Faults.{HasCause};
-ghost use Rattle.esc_assume.specs.Supported.{is_supported};
-ghost use Rattle.esc_form.specs.declared.command.Kind.TheVariants as kind;
+ghost use Rattle.esc_answers.specs.Answers.{AnswersGoal, AnswersKind};
 ghost use Rattle.esc_form.specs.Laws.{IsClosedKind};
+ghost use Rattle.esc_form.specs.declared.command.Kind.TheVariants as kind;
 ghost use Rattle.esc_names.specs.Numbering.{first_names};
 ghost use Rattle.esc_names.specs.Rows.{HasDistinctRows};
-ghost use Rattle.esc_read.specs.Tokens.{place_of};
-ghost use Rattle.esc_sexp.specs.declared.sexp.Sexp.{Sexp};
-ghost use Rattle.esc_term.specs.declared.formula.Formula.TheVariants as formula;
+ghost use Rattle.esc_read.specs.Reading.{Extends};
+ghost use Rattle.esc_report.specs.Found.{base_of};
+ghost use Rattle.esc_report.specs.Supported.{is_supported};
 ghost use Rattle.esc_term.specs.Formula.{is_closed};
-ghost use Rattle.esc_top.specs.Answers.{Answers, IsCommand, Reports};
-ghost use Rattle.esc_top.specs.Told.{Grown, is_proved_report};
-ghost use Rattle.esc_top.specs.Underway.{AnswersOne};
+ghost use Rattle.esc_top.specs.Answers.{AnswersExpression};
+ghost use Rattle.esc_top.specs.Progress.{limits_of_run};
+ghost use Rattle.esc_top.specs.Told.{is_proved_report};
+ghost use Rattle.esc_top.specs.Underway.{AnswersOne, state_of};
 
 use esc_form::{FormStop, Kind, read_command, reading_laws};
 use esc_io::{Failed, Sink};
 use esc_names::Names;
-use esc_plain::{Verdict, decide, is_supported};
+use esc_plain::{Verdict, decide};
 use esc_read::place_of;
-use esc_report::{Refusal, Report, put_report};
+use esc_report::{Limits, Refusal, Report, is_supported, put_report};
 use esc_sexp::Sexp;
 use esc_term::{Formula, Formulas};
 use sqlite_items::{Boxed, Items};
 use std::alloc::{AllocError, Global};
+
+/// How far each search goes.
+const LIMITS: Limits = Limits {
+    open_splits: 10_000,
+};
 
 /// What is kept from one expression to the next.
 #[derive(Drop)]
@@ -46,7 +52,7 @@ fn is_proved_report(report: &Report) -> bool
 
 // The negated goal alone.
 fn negated(alloc: Global, goal: Formula) -> Result<Formulas, AllocError>
-    ensures { IfOk result (λ formulas. formulas ≡ formula.Not goal ∷ []) }
+    ensures { IfOk result (λ formulas. formulas ≡ base_of goal) }
 {
     let mut formulas = Items::new(alloc);
     formulas.push(Formula::Not(Boxed::new(alloc, goal)?))?;
@@ -57,9 +63,10 @@ fn negated(alloc: Global, goal: Formula) -> Result<Formulas, AllocError>
 fn report_of(alloc: Global, goal: u64, formula: Formula) -> Result<Report, AllocError>
     requires closed { IsTrue (is_closed formula) }
     requires supported { IsTrue (is_supported formula) }
-    ensures { IfOk result (λ r. Reports goal formula r) }
+    ensures { IfOk result (λ report. (place : ℕ)
+        → AnswersGoal limits_of_run formula goal place report) }
 {
-    match decide(alloc, &formula)? {
+    match decide(alloc, &formula, LIMITS)? {
         Verdict::Refuted => Ok(Report::Valid {
             goal,
             formulas: negated(alloc, formula)?,
@@ -87,7 +94,8 @@ impl Desk {
     fn answer_goal(&mut self, formula: Formula, place: u64) -> Report
         requires few { self.old.goals < 2 ^ 63 }
         requires closed { IsTrue (is_closed formula) }
-        ensures answers { (e : Sexp) → IsCommand self.old.names e (kind.Goal formula) → place ≡ place_of e → Answers self.old.names self.old.goals e result self.new.goals }
+        ensures answers { AnswersKind limits_of_run (state_of self.old) place (kind.Goal formula)
+            result (state_of self.new) }
         ensures names { self.new.names ≡ self.old.names }
         ensures counted { self.new.goals ≤ self.old.goals + 1 }
         ensures clean { self.new.all_proved ≡ self.old.all_proved }
@@ -111,7 +119,8 @@ impl Desk {
     fn answer_command(&mut self, kind: Kind, place: u64) -> Report
         requires few { self.old.goals < 2 ^ 63 }
         requires closed { IsClosedKind kind }
-        ensures answers { (e : Sexp) → IsCommand self.old.names e kind → place ≡ place_of e → Answers self.old.names self.old.goals e result self.new.goals }
+        ensures answers { AnswersKind limits_of_run (state_of self.old) place kind
+            result (state_of self.new) }
         ensures names { self.new.names ≡ self.old.names }
         ensures counted { self.new.goals ≤ self.old.goals + 1 }
         ensures clean { self.new.all_proved ≡ self.old.all_proved }
@@ -128,8 +137,9 @@ impl Desk {
 
     fn answer(&mut self, sexp: &Sexp) -> Report
         requires few { self.old.goals < 2 ^ 63 }
-        ensures answers { Answers self.new.names self.old.goals sexp.now result self.new.goals }
-        ensures names { Grown self.old.names self.new.names }
+        ensures answers { AnswersExpression limits_of_run self.new.names (state_of self.old)
+            sexp.now result (state_of self.new) }
+        ensures names { Extends self.old.names self.new.names }
         ensures distinct { HasDistinctRows self.new.names }
         ensures counted { self.new.goals ≤ self.old.goals + 1 }
         ensures clean { self.new.all_proved ≡ self.old.all_proved }
@@ -138,7 +148,7 @@ impl Desk {
         let read = read_command(self.alloc, sexp, &mut self.names);
         self.names.rows_differ();
         match read {
-            Ok(command) => self.answer_command(command.kind, place_of(sexp)),
+            Ok(command) => self.answer_command(command.kind, command.place),
             Err(FormStop::Fault(fault)) => Report::Refused {
                 place: fault.place,
                 why: Refusal::Form(fault.kind),
@@ -153,7 +163,8 @@ impl Desk {
     /// Answers an expression and writes the text of the answer.
     pub fn tell<K: Sink>(&mut self, sexp: &Sexp, sink: &mut K) -> Result<(), Failed>
         requires few { self.old.goals < 2 ^ 63 }
-        ensures answers { AnswersOne self.old self.new sexp.now (K.written sink.old) (K.written sink.new) result }
+        ensures answers { AnswersOne self.old self.new sexp.now (K.written sink.old)
+            (K.written sink.new) result }
         ensures cause { HasCause (K.faults sink.old) (K.faults sink.new) result }
     {
         let report = self.answer(sexp);

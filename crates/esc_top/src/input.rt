@@ -40,10 +40,12 @@ pub enum Feeding {
 fn answer_whole<K: Sink>(reader: &mut Reader, desk: &mut Desk, sink: &mut K) -> Result<Stop, Failed>
     requires few { desk.old.goals ≤ reader.old.place }
     requires small { reader.old.place + length reader.old.bytes < 2 ^ 63 }
-    ensures told { (left rest written : Option (List ℕ)) → Underway left rest written (K.written sink.old) reader.old desk.old
+    ensures told { (left rest written : Option (List ℕ))
+        → Underway left rest written (K.written sink.old) reader.old desk.old
         → Stops left rest written (K.written sink.new) reader.new desk.new result }
     ensures few { desk.new.goals ≤ reader.new.place }
-    ensures end { reader.new.place + length reader.new.bytes ≡ reader.old.place + length reader.old.bytes }
+    ensures end { reader.new.place + length reader.new.bytes
+        ≡ reader.old.place + length reader.old.bytes }
     ensures finished { reader.new.finished ≡ reader.old.finished }
     ensures reads { (count : ℕ) → StopsByCount result count count }
     ensures cause { HasCause (K.faults sink.old) (K.faults sink.new) result }
@@ -83,7 +85,8 @@ fn feed_piece<S: Source>(
     }
 }
 
-// How many bytes are read at once. Where no more may be read, one byte tells whether there are more.
+// How many bytes are read at once. Where no more may be read, one byte tells whether there are
+// more.
 fn most_of(piece: usize, room: u64) -> usize
     requires { 0 < piece }
     ensures within { result ≤ piece }
@@ -110,8 +113,10 @@ fn answer_pieces<S: Source, K: Sink>(
 ) -> Result<Stop, Failed>
     requires some { 0 < length piece.old }
     requires few { desk.old.goals ≤ reader.old.place }
-    requires begins { reader.old ≡ record { place = 0; bytes = []; finished = false; fault = None } }
-    ensures told { (left written : Option (List ℕ)) → Underway left (S.left source.old) written (K.written sink.old) reader.old desk.old
+    requires begins { reader.old
+        ≡ record { place = 0; bytes = []; finished = false; fault = None } }
+    ensures told { (left written : Option (List ℕ))
+        → Underway left (S.left source.old) written (K.written sink.old) reader.old desk.old
         → Stops left (S.left source.new) written (K.written sink.new) reader.new desk.new result }
     ensures few { desk.new.goals ≤ reader.new.place }
     ensures small { reader.new.place + length reader.new.bytes < 2 ^ 63 }
@@ -143,7 +148,8 @@ pub fn answer_input<S: Source, K: Sink>(
     source: &mut S,
     sink: &mut K,
 ) -> Result<Status, Failed>
-    ensures told { Came (S.left source.old) (S.left source.new) (K.written sink.old) (K.written sink.new) result }
+    ensures told { Came (S.left source.old) (S.left source.new)
+        (K.written sink.old) (K.written sink.new) result }
     ensures cause { HasCause (K.faults sink.old) (K.faults sink.new) result }
     ensures reads { EndsByCount result (S.faults source.old) (S.faults source.new) }
 {
@@ -158,8 +164,8 @@ pub fn answer_input<S: Source, K: Sink>(
     Ok(status_at(stop, desk.all_proved))
 }
 
-// How a run ended that stopped so: at the end of the input it is told whether each report says that a goal is
-// valid or a command carried out.
+// How a run ended that stopped so: at the end of the input it is told whether each report says that
+// a goal is valid or a command carried out.
 fn status_at(stop: Stop, all_proved: bool) -> Status
     ensures { result ≡ status_at stop all_proved }
 {

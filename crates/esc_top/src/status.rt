@@ -1,8 +1,7 @@
 //! How a run ends.
 
 ghost use Rattle.std.specs.Prelude.{◌≡◌, ◌++◌};
-ghost use Rattle.esc_io.specs.Faults.{HasCause};
-ghost use Rattle.esc_io.specs.Putting.{Puts};
+ghost use Rattle.esc_io.specs.Putting.{Delivers};
 ghost use Rattle.esc_top.specs.Codes.{code_of};
 ghost use Rattle.esc_top.specs.LastLine.{fault_line, fault_opening, kind_line, kind_text, last_line};
 
@@ -13,7 +12,8 @@ use itoa::Buffer;
 /// How a run ended.
 #[derive(Clone, Copy, Debug, PartialEq, Eq)]
 pub enum Status {
-    /// The input was read to its end, and each report says that a goal is valid or a command carried out.
+    /// The input was read to its end, and each report says that a goal is valid or a command
+    /// carried out.
     Proved,
     /// The input was read to its end, and some report says otherwise.
     Answered,
@@ -72,8 +72,8 @@ fn fault_opening() -> &'static [u8]
 // Three texts in order.
 #[tactic(auto, using(esc_io::proofs::PuttingLemmas::putting))]
 fn put_three<K: Sink>(first: &[u8], second: &[u8], third: &[u8], sink: &mut K) -> Result<(), Failed>
-    ensures bytes { Puts (K.written sink.old) (K.written sink.new) result (first.now ++ (second.now ++ third.now)) }
-    ensures cause { HasCause (K.faults sink.old) (K.faults sink.new) result }
+    ensures { Delivers K.written K.faults sink.old sink.new result
+        (first.now ++ (second.now ++ third.now)) }
 {
     put_all(sink, first)?;
     put_all(sink, second)?;
@@ -83,16 +83,14 @@ fn put_three<K: Sink>(first: &[u8], second: &[u8], third: &[u8], sink: &mut K) -
 // What is wrong, behind its place.
 #[tactic(auto, unfolding(crate::specs::LastLine::kind_line))]
 fn put_kind<K: Sink>(kind: SexpKind, sink: &mut K) -> Result<(), Failed>
-    ensures bytes { Puts (K.written sink.old) (K.written sink.new) result (kind_line kind) }
-    ensures cause { HasCause (K.faults sink.old) (K.faults sink.new) result }
+    ensures { Delivers K.written K.faults sink.old sink.new result (kind_line kind) }
 {
     put_three(b": ", kind_text(kind), b".\n", sink)
 }
 
 #[tactic(auto, using(esc_io::proofs::PuttingLemmas::putting))]
 fn put_fault<K: Sink>(fault: SexpFault, sink: &mut K) -> Result<(), Failed>
-    ensures bytes { Puts (K.written sink.old) (K.written sink.new) result (fault_line fault) }
-    ensures cause { HasCause (K.faults sink.old) (K.faults sink.new) result }
+    ensures { Delivers K.written K.faults sink.old sink.new result (fault_line fault) }
 {
     let mut buffer = Buffer::new();
     put_all(sink, fault_opening())?;
@@ -102,8 +100,7 @@ fn put_fault<K: Sink>(fault: SexpFault, sink: &mut K) -> Result<(), Failed>
 
 /// Writes the last line.
 pub fn put_last_line<K: Sink>(status: Status, sink: &mut K) -> Result<(), Failed>
-    ensures bytes { Puts (K.written sink.old) (K.written sink.new) result (last_line status) }
-    ensures cause { HasCause (K.faults sink.old) (K.faults sink.new) result }
+    ensures { Delivers K.written K.faults sink.old sink.new result (last_line status) }
 {
     match status {
         Status::Proved | Status::Answered | Status::WriteFault => put_all(sink, b""),

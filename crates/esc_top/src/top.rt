@@ -2,20 +2,21 @@
 
 ghost use Rattle.std.specs.Prelude.{◌≡◌, ◌≢◌, ◌<◌, ◌≤◌, length};
 ghost use Rattle.esc_io.specs.Faults.{HasCause, Rose};
-ghost use Rattle.esc_io.specs.Putting.{Puts};
+ghost use Rattle.esc_io.specs.Putting.{Delivers};
 ghost use Rattle.esc_top.specs.LastLine.{last_line};
+ghost use Rattle.esc_top.specs.Laws.{AreComplete};
 ghost use Rattle.esc_top.specs.Ran.{Ran};
 ghost use Rattle.esc_top.specs.Underway.{Came, EndsByCount, IsUnread};
 
 use crate::input::answer_input;
+use crate::laws::run_laws;
 use crate::status::{Status, put_last_line};
 use esc_io::{Failed, Sink, Source};
 use std::alloc::Global;
 
 // Writes the last line and sees that it goes on its way.
 fn finish<K: Sink>(status: Status, sink: &mut K) -> Result<(), Failed>
-    ensures bytes { Puts (K.written sink.old) (K.written sink.new) result (last_line status) }
-    ensures cause { HasCause (K.faults sink.old) (K.faults sink.new) result }
+    ensures { Delivers K.written K.faults sink.old sink.new result (last_line status) }
 {
     put_last_line(status, sink)?;
     sink.flush()
@@ -28,8 +29,12 @@ fn answer<S: Source, K: Sink>(
     source: &mut S,
     sink: &mut K,
 ) -> Result<Status, Failed>
-    ensures unread { 1 < length words.now → IsUnread (S.left source.old) (S.left source.new) (K.written sink.old) (K.written sink.new) result }
-    ensures told { length words.now ≤ 1 → Came (S.left source.old) (S.left source.new) (K.written sink.old) (K.written sink.new) result }
+    ensures unread { 1 < length words.now
+        → IsUnread (S.left source.old) (S.left source.new) (K.written sink.old)
+        (K.written sink.new) result }
+    ensures told { length words.now ≤ 1
+        → Came (S.left source.old) (S.left source.new) (K.written sink.old)
+        (K.written sink.new) result }
     ensures cause { HasCause (K.faults sink.old) (K.faults sink.new) result }
     ensures reads { EndsByCount result (S.faults source.old) (S.faults source.new) }
 {
@@ -39,12 +44,13 @@ fn answer<S: Source, K: Sink>(
     answer_input(alloc, source, sink)
 }
 
-/// Reads commands from the source up to its end, and writes the answers to the sink in order. The words are those of the
-/// command line, of which the first is the program's name. No others are understood: where there are more, nothing is
-/// read.
+/// Reads commands from the source up to its end, and writes the answers to the sink in order. The
+/// words are those of the command line, of which the first is the program's name. No others are
+/// understood: where there are more, nothing is read.
 ///
-/// Each answer is written and flushed before more is read, and the sink is flushed at the end; no clause says so. Where
-/// source or sink do not tell their bytes, only what is said of their faults holds of them.
+/// Which status comes exactly where is one of the laws of runs. Each answer is written and flushed
+/// before more is read, and the sink is flushed at the end; no clause says so. Where source or sink
+/// do not tell their bytes, only what is said of their faults holds of them.
 pub fn run<S: Source, K: Sink>(
     alloc: Global,
     words: &[String],
@@ -52,15 +58,25 @@ pub fn run<S: Source, K: Sink>(
     sink: &mut K,
 ) -> Status
     // Each expression is answered in order.
-    ensures ran { Ran (length words.now) (S.left source.old) (S.left source.new) (K.written sink.old) (K.written sink.new) (S.faults source.old) (S.faults source.new) result }
+    ensures ran { Ran (length words.now) (S.left source.old) (S.left source.new)
+        (K.written sink.old) (K.written sink.new)
+        (S.faults source.old) (S.faults source.new) result }
 
-    // A fault is told only where source or sink had one. A fault of the sink is always told, and one of the source
-    // unless the sink fails behind it.
+    // A goal whose negation is refuted is proved, or memory is wanting.
+    ensures complete { (ran : Ran (length words.now) (S.left source.old) (S.left source.new)
+        (K.written sink.old) (K.written sink.new)
+        (S.faults source.old) (S.faults source.new) result)
+        → AreComplete ran.progress.expressions ran.progress.told }
+
+    // A fault is told only where source or sink had one. A fault of the sink is always told, and
+    // one of the source unless the sink fails behind it.
     ensures reads { result ≡ Status.ReadFault → Rose (S.faults source.old) (S.faults source.new) }
-    ensures no_read_fault { result ≢ Status.ReadFault → result ≢ Status.WriteFault → S.faults source.new ≡ S.faults source.old }
+    ensures no_read_fault { result ≢ Status.ReadFault → result ≢ Status.WriteFault
+        → S.faults source.new ≡ S.faults source.old }
     ensures writes { result ≡ Status.WriteFault → Rose (K.faults sink.old) (K.faults sink.new) }
     ensures no_write_fault { result ≢ Status.WriteFault → K.faults sink.new ≡ K.faults sink.old }
 {
+    run_laws();
     let Ok(status) = answer(alloc, words, source, sink) else {
         return Status::WriteFault;
     };

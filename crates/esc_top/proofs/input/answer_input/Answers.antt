@@ -6,16 +6,20 @@ use Rattle.esc_top.proofs.UnderwayLemmas.{came_broken, count_at, reached_at, rea
 use Rattle.esc_top.proofs.input.answer_input.Goals as goal
 
 pub returns-in_default-clause-told : goal.returns-in_default-clause-told
-returns-in_default-clause-told g c = reached_at_once (g.S.Source.left c.args.source.now) (g.K.Sink.written c.args.sink.now)
+returns-in_default-clause-told g c = reached_at_once (g.S.Source.left c.args.source.now)
+    (g.K.Sink.written c.args.sink.now)
 
 pub returns-in_default-from_elem-clause-told : goal.returns-in_default-from_elem-clause-told
-returns-in_default-from_elem-clause-told g c = reached_at_once (g.S.Source.left c.args.source.now) (g.K.Sink.written c.args.sink.now)
+returns-in_default-from_elem-clause-told g c = reached_at_once (g.S.Source.left c.args.source.now)
+    (g.K.Sink.written c.args.sink.now)
 
 pub returns-in_err-stop-clause-told : goal.returns-in_err-stop-clause-told
 returns-in_err-stop-clause-told g c =
     came_broken c.from_residual.result c.from_residual.ensures.0
-    (c.in_err-stop.ensures.told (g.S.Source.left c.args.source.now) (g.K.Sink.written c.args.sink.now)
-    (underway_start (g.S.Source.left c.args.source.now) (g.K.Sink.written c.args.sink.now) c.new-reader.result c.in-Ok.desk c.new-reader.ensures
+    (c.in_err-stop.ensures.told (g.S.Source.left c.args.source.now)
+    (g.K.Sink.written c.args.sink.now)
+    (underway_start (g.S.Source.left c.args.source.now) (g.K.Sink.written c.args.sink.now)
+    c.new-reader.result c.in-Ok.desk c.new-reader.ensures
     c.in-Ok.ensures.names c.in-Ok.ensures.goals c.in-Ok.ensures.clean))
 
 pub returns-clause-told : goal.returns-clause-told
@@ -23,13 +27,18 @@ returns-clause-told g c =
     let left = g.S.Source.left c.args.source.now in
     let written = g.K.Sink.written c.args.sink.now in
     let stops = c.in_ok-stop.ensures.told left written
-    (underway_start left written c.new-reader.result c.in-Ok.desk c.new-reader.ensures c.in-Ok.ensures.names c.in-Ok.ensures.goals c.in-Ok.ensures.clean) in
-    subst (λ (status : Status). Reached left (g.S.Source.left c.answer_pieces.new.source) written (g.K.Sink.written c.answer_pieces.new.sink) status) (sym c.status_at.ensures)
-    (reached_at Failed c.answer_pieces.new.reader c.answer_pieces.new.desk c.in_ok-stop.stop (λ hungry. c.in_ok-stop.ensures.ended (ap Ok hungry)) stops)
+    (underway_start left written c.new-reader.result c.in-Ok.desk c.new-reader.ensures
+    c.in-Ok.ensures.names c.in-Ok.ensures.goals c.in-Ok.ensures.clean) in
+    subst (λ (status : Status). Reached left (g.S.Source.left c.answer_pieces.new.source) written
+    (g.K.Sink.written c.answer_pieces.new.sink) status) (sym c.status_at.ensures)
+    (reached_at Failed c.answer_pieces.new.reader c.answer_pieces.new.desk c.in_ok-stop.stop
+    (λ hungry. c.in_ok-stop.ensures.ended (ap Ok hungry)) stops)
 
 pub returns-clause-reads : goal.returns-clause-reads
 returns-clause-reads g c =
     let before = g.S.Source.faults c.args.source.now in
     let now = g.S.Source.faults c.answer_pieces.new.source in
-    subst (λ (status : Status). EndsByCount {E = Failed} (Ok status) before now) (sym c.status_at.ensures)
-    (count_at Failed Failed c.in_ok-stop.stop c.answer_pieces.new.desk.all_proved before now c.in_ok-stop.ensures.reads)
+    subst (λ (status : Status). EndsByCount {E = Failed} (Ok status) before now)
+    (sym c.status_at.ensures)
+    (count_at Failed Failed c.in_ok-stop.stop c.answer_pieces.new.desk.all_proved before now
+    c.in_ok-stop.ensures.reads)

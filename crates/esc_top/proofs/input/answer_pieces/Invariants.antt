@@ -7,7 +7,8 @@ invariant-pieces g l =
     let written = g.K.Sink.written in
     let source = g.S.Source.left in
     record {
-      told : (left before : Option (List ℕ)) → Underway left (source l.fn.source) before (written l.fn.sink) l.fn.reader l.fn.desk
+      told : (left before : Option (List ℕ)) → Underway left (source l.fn.source) before
+          (written l.fn.sink) l.fn.reader l.fn.desk
           → Underway left (source l.source) before (written l.sink) l.reader l.desk;
       few : l.desk.goals ≤ l.reader.place;
       open_end : l.reader.finished ≡ false;

@@ -6,7 +6,8 @@ abbrev pub invariant-expressions : goal.invariant-expressions
 invariant-expressions g l =
     let written = g.K.Sink.written in
     record {
-      told : (left rest before : Option (List ℕ)) → Underway left rest before (written l.fn.sink) l.fn.reader l.fn.desk → Underway left rest before (written l.sink) l.reader l.desk;
+      told : (left rest before : Option (List ℕ)) → Underway left rest before (written l.fn.sink)
+          l.fn.reader l.fn.desk → Underway left rest before (written l.sink) l.reader l.desk;
       few : l.desk.goals ≤ l.reader.place;
       end : l.reader.place + length l.reader.bytes ≡ l.fn.reader.place + length l.fn.reader.bytes;
       finished : l.reader.finished ≡ l.fn.reader.finished;

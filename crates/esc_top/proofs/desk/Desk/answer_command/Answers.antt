@@ -1,17 +1,25 @@
-use Rattle.std.proofs.Common.{◌≡◌, true, ap, arith, inl, inr, refl}
-use Rattle.esc_top.specs.Answers.{is_unsupported}
-use Rattle.esc_top.proofs.Commands.{refuses_command}
+use Rattle.std.proofs.Common.{arith, inl, inr, refl, sym, subst}
+use Rattle.esc_form.specs.declared.command.Kind.{Kind}
+use Rattle.esc_report.specs.declared.report.Refusal.TheVariants.{Unsupported}
+use Rattle.esc_report.specs.declared.report.Report.TheVariants.{Refused}
+use Rattle.esc_answers.specs.Answers.{AnswersKind}
+use Rattle.esc_top.specs.Progress.{limits_of_run}
+use Rattle.esc_top.specs.Underway.{state_of}
 use Rattle.esc_top.proofs.desk.Desk.answer_command.Goals as goal
 
 pub returns : goal.returns
 returns c =
-    let other : is_unsupported c.args.kind ≡ true =
-    elim c.in-Push.is [
-      | inl push ↦ ap is_unsupported push.1
-      | inr rest ↦ elim rest [ inl pop ↦ ap is_unsupported pop | inr define ↦ ap is_unsupported define.4 ]
-    ] in
+    let Answered = λ (k : Kind). AnswersKind limits_of_run (state_of c.args.self.now) c.args.place k
+    (Refused c.args.place Unsupported) (state_of c.args.self.now) in
     record {
-      answers = λ e is place. refuses_command c.args.self.now.names c.args.self.now.goals c.args.place e c.args.kind is other place;
+      answers = elim c.in-Push.is [
+        | inl push ↦ subst Answered (sym push.1) (refl, refl)
+        | inr rest ↦ elim rest [
+          | inl pop ↦ subst Answered (sym pop) (refl, refl)
+          | inr define ↦
+              subst Answered (sym define.4) (refl, refl)
+        ]
+      ];
       names = refl;
       counted = omega arith;
       clean = refl;
