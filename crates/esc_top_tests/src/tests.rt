@@ -4,7 +4,8 @@ use sqlite_items::Items;
 use std::alloc::Global;
 use std::test::Fail;
 
-/// How a run goes on: the words of the command line, the bytes of one read, and which reads and writes fail.
+/// How a run goes on: the words of the command line, the bytes of one read, and which reads and
+/// writes fail.
 #[derive(Drop)]
 struct Way<'a> {
     words: &'a [String],
@@ -97,7 +98,8 @@ fn a_source_that_fails_at_its_second_read(rt: HostRuntime) -> Result<(), Fail> {
 
 const OPEN: &[u8] = b"Counterexample:\n  context:\n    (NEQ a b)\n1: Invalid.\n";
 
-/// How much is written of the output where the call with this number fails. `None` where no such call is made.
+/// How much is written of the output where the call with this number fails. `None` where no such
+/// call is made.
 fn written_before(alloc: Global, call: u64) -> Result<Option<usize>, Fail> {
     let input = Items::from_slice(alloc, b"(EQ a b)\n")?;
     let mut source = MemSource::new(input, 4096, Items::new(alloc));
@@ -112,6 +114,17 @@ fn written_before(alloc: Global, call: u64) -> Result<Option<usize>, Fail> {
     Ok(Some(sink.bytes().len()))
 }
 
+/// At how many of its calls a sink may fail so that this much is written.
+fn calls_behind(alloc: Global, written: usize) -> Result<u32, Fail> {
+    let mut calls = 0u32;
+    for call in 0..100 {
+        if written_before(alloc, call)? == Some(written) {
+            calls = calls.saturating_add(1);
+        }
+    }
+    Ok(calls)
+}
+
 #[test]
 fn a_sink_that_fails_at_each_of_its_calls(rt: HostRuntime) -> Result<(), Fail> {
     let alloc = rt.alloc();
@@ -124,5 +137,15 @@ fn a_sink_that_fails_at_each_of_its_calls(rt: HostRuntime) -> Result<(), Fail> {
     }
     assert!(rt; last > 3);
     assert!(rt; last < 99);
+    Ok(())
+}
+
+// Nothing is written at the first flush and the first write, and all at the second flush, behind
+// the answer, and at the last.
+#[test]
+fn a_sink_that_fails_at_each_flush(rt: HostRuntime) -> Result<(), Fail> {
+    let alloc = rt.alloc();
+    assert_eq!(rt; calls_behind(alloc, 0)?, 2);
+    assert_eq!(rt; calls_behind(alloc, OPEN.len())?, 2);
     Ok(())
 }
