@@ -1,0 +1,60 @@
+-- The first element that passes a test.
+use Rattle.std.proofs.Common.{◌≡◌, ℕ, ◌<◌, ◌≤◌, Bool, true, false, List, Option, Some, None, length, get_or, slice_get, refl, sym, ap, ◌∙◌, arith, true≢false, ◌==◌}
+use Rattle.std.specs.List.{Contains, find, position_or_len}
+use Rattle.std.proofs.lemmas.Bool.{eq-eqb, eqb-true}
+use Rattle.std.proofs.lemmas.List.{get_or_default}
+use Rattle.std.proofs.lemmas.Option.{slice_get-get_or, slice_get_past}
+use Rattle.std.specs.Option.{option_map}
+use Rattle.esc_simplex.specs.View.{bound_to}
+use Rattle.std.proofs.lemmas.List.Folds.{find_at}
+use Rattle.std.proofs.lemmas.List.Sums.{position_or_len_is}
+
+-- at the place before which none passes
+pub find_first : {X : Type 0} (p : X → Bool) (xs : List X) (i : ℕ) (d : X) → i < length xs
+    → ((k : ℕ) → k < i → p (get_or xs k d) ≡ false) → p (get_or xs i d) ≡ true → find p xs
+    ≡ slice_get xs i
+find_first p xs i d inside before passes =
+    find_at p xs ∙ ap (slice_get xs) (position_or_len_is p xs i d (omega arith) before
+    (λ _. passes))
+
+-- nowhere
+pub find_none : {X : Type 0} (p : X → Bool) (xs : List X) (d : X)
+    → ((k : ℕ) → k < length xs → p (get_or xs k d) ≡ false) → find p xs ≡ slice_get xs (length xs)
+find_none p xs d none = find_at p xs ∙ ap (slice_get xs)
+    (position_or_len_is p xs (length xs) d (omega arith) none (λ h. absurd (omega arith)))
+
+-- a number that is not at any place is not in the list
+pub not_listed : (us : List ℕ) (u : ℕ) → ((k : ℕ) → k < length us → (get_or us k 0 == u) ≡ false)
+    → Contains us u → ⊥
+not_listed us u none h =
+    absurd (true≢false (sym (eq-eqb (get_or us h.0 0) u (get_or_default us h.0 0 u h.1 ∙ h.2))
+    ∙ none h.0 h.1))
+
+pub listed_at : (us : List ℕ) (u k w : ℕ) → k < length us → w ≡ get_or us k w → (w == u) ≡ true
+    → Contains us u
+listed_at us u k w inside read same = (
+  k,
+  inside,
+  get_or_default us k u w inside ∙ sym read
+      ∙ eqb-true w u same,
+)
+
+-- the unknown of the first pair with the node
+pub bound_at : (bound : List (ℕ × ℕ)) (a k : ℕ) (r s : ℕ × ℕ) → k < length bound
+    → ((i : ℕ) → i < k → ((get_or bound i (0, 0)).0 == a) ≡ false) → ((get_or bound k s).0 == a)
+    ≡ true → Some (get_or bound k r).1 ≡ bound_to bound a
+bound_at bound a k r s inside before passes =
+    let read : get_or bound k s ≡ get_or bound k (0, 0) = get_or_default bound k s (0, 0) inside in
+    let found : find (λ (pair : ℕ × ℕ). pair.0 == a) bound ≡ Some (get_or bound k r) =
+    find_first (λ (pair : ℕ × ℕ). pair.0 == a) bound k (0, 0) inside before
+    (ap (λ (pair : ℕ × ℕ). pair.0 == a) (sym read) ∙ passes)
+    ∙ slice_get-get_or bound k r inside in
+    sym (ap (option_map (λ (pair : ℕ × ℕ). pair.1)) found)
+
+pub bound_nowhere : (bound : List (ℕ × ℕ)) (a : ℕ)
+    → ((i : ℕ) → i < length bound → ((get_or bound i (0, 0)).0 == a) ≡ false) → None
+    ≡ bound_to bound a
+bound_nowhere bound a none =
+    sym (ap (option_map (λ (pair : ℕ × ℕ). pair.1))
+    (find_none (λ (pair : ℕ × ℕ). pair.0 == a) bound (0, 0) none
+    ∙ slice_get_past bound (length bound) (omega arith)))

@@ -1,0 +1,1 @@
+use Rattle.esc_simplex.proofs.maximising.maximised.Goals as goal

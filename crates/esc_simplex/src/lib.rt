@@ -1,0 +1,16 @@
+//! Linear restrictions on terms over one tableau, which is kept where restrictions and unknowns are
+//! taken back.
+#![tactic(auto)]
+
+mod laws;
+mod made;
+mod maximising;
+mod record;
+mod simplex;
+mod stop;
+
+pub use laws::value_laws;
+pub use made::Made;
+pub use record::SimplexRec;
+pub use simplex::Simplex;
+pub use stop::{Jammed, Parted, Stop};

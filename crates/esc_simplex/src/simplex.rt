@@ -1,0 +1,377 @@
+ghost use Rattle.std.specs.Prelude.{◌≡◌, ℕ, [], ◌∷◌, ◌++◌, false, length, take, ◌<◌, OnOk, OnErr, IfOk, IfErr, IsTrue, None, ◌↔◌};
+ghost use Rattle.esc_frac.specs.Rational.{zero_ℚ, ◌≤ℚ◌};
+ghost use Rattle.esc_tableau.specs.Table.{sample, size};
+ghost use Rattle.std.specs.List.{All, Contains};
+ghost use Rattle.esc_cover.specs.Assignment.{Gap};
+ghost use Rattle.esc_linear.specs.Forms.{form};
+ghost use Rattle.esc_tableau.specs.Listed.{tabled};
+ghost use Rattle.esc_trail.specs.Undo.{Notes};
+ghost use Rattle.esc_simplex.specs.Barred.{IsBarred};
+ghost use Rattle.esc_simplex.specs.Calls.{AreRowsFor, AtLeastZeroEnds, ExceedShows, GapEnds, IsForTerm, KeepsLists, LiftShows, Makes, PartEnds, SampleIsAllowed, both_gaps, gap_in};
+ghost use Rattle.esc_simplex.specs.Senses.{gap_of, term as sense_term};
+ghost use Rattle.esc_simplex.specs.SimplexUndo.{AreSame, simplex_undo};
+ghost use Rattle.esc_simplex.specs.View.{IsInUse, IsSimplex, bound_to};
+
+use crate::made::Made;
+use crate::maximising::{add_gap_row, exceeds, lift};
+use crate::record::SimplexRec;
+use crate::stop::{Parted, Stop};
+use esc_egraph::{Node, State};
+use esc_frac::Frac;
+use esc_tableau::{Rows, Tableau, Unknown};
+use esc_term::Term;
+use esc_trail::{Carries, Trail, Undoable};
+use sqlite_items::Items;
+use std::alloc::{AllocError, Global};
+
+/// Unknowns for terms and for gaps of terms, some of them bound to nodes, and those that are
+/// restricted to be at least 0. The rows are kept where unknowns and restrictions are taken back.
+#[derive(Drop)]
+pub struct Simplex {
+    pub(crate) tableau: Tableau,
+    // what each unknown in the rows was made for, by its number
+    pub(crate) made: Items<Made>,
+    // the unknowns in use
+    pub(crate) unknowns: Items<Unknown>,
+    // nodes with their unknowns
+    pub(crate) bound: Items<(Node, Unknown)>,
+    pub(crate) restricted: Items<Unknown>,
+    // how many pivots a maximising may take
+    pub(crate) limit: u64,
+    pub(crate) alloc: Global,
+}
+
+impl Undoable for Simplex {
+    type Rec = SimplexRec;
+
+    ghost use Rattle.esc_simplex.specs.SimplexUndo.{simplex_undo};
+    ghost use Rattle.esc_simplex.specs.SimplexLaws.{simplex_lawful};
+
+    ghost undo = { simplex_undo };
+
+    ghost lawful = { simplex_lawful };
+
+    fn back(&mut self, rec: SimplexRec) {
+        match rec {
+            SimplexRec::Listed => {
+                let _ = self.unknowns.pop();
+            }
+            SimplexRec::Bound => {
+                let _ = self.bound.pop();
+            }
+            SimplexRec::Restricted => {
+                if let Some(newest) = self.restricted.pop() {
+                    if newest.number() < self.tableau.count() {
+                        self.tableau.free(newest);
+                    }
+                }
+            }
+        }
+    }
+}
+
+impl Simplex {
+    /// No unknowns and no restrictions. A maximising may take so many pivots.
+    pub fn new(alloc: Global, pivots: u64) -> Simplex
+        ensures simplex { IsSimplex result }
+        ensures made { result.made ≡ [] }
+        ensures unknowns { result.unknowns ≡ [] }
+        ensures bound { result.bound ≡ [] }
+        ensures restricted { result.restricted ≡ [] }
+        ensures limit { result.limit ≡ pivots }
+    {
+        Simplex {
+            tableau: Tableau::new(alloc),
+            made: Items::new(alloc),
+            unknowns: Items::new(alloc),
+            bound: Items::new(alloc),
+            restricted: Items::new(alloc),
+            limit: pivots,
+            alloc,
+        }
+    }
+
+    /// The unknown that the node is bound to.
+    pub fn unknown_of(&self, a: Node) -> Option<Unknown>
+        ensures { result ≡ bound_to self.now.bound a }
+    {
+        unknown_in(self.bound.as_slice(), a)
+    }
+
+    /// The unknown's value at one assignment that the restrictions allow, which is the same for all
+    /// unknowns.
+    pub fn value(&self, u: Unknown) -> Frac
+        requires simplex { IsSimplex self.now }
+        ensures value { result ≡ sample self.now.tableau u }
+        ensures point { SampleIsAllowed self.now }
+    {
+        self.tableau.value(u)
+    }
+
+    /// An unknown for u - v, or for u - v - 1 where it is strict.
+    pub fn gap<R: Carries<SimplexRec>>(
+        &mut self,
+        u: Unknown,
+        v: Unknown,
+        strict: bool,
+        trail: &mut Trail<R>,
+    ) -> Result<Unknown, Stop>
+        requires simplex { IsSimplex self.old }
+        requires u { IsForTerm self.old u }
+        requires v { IsForTerm self.old v }
+        ensures ok { IfOk result (λ w. IsInUse self.new w (gap_of (gap_in self.old u v strict))) }
+        ensures ends { GapEnds result }
+        ensures stop { IfErr result (IsBarred self.new (λ t. ⊥) (λ g. g
+            ≡ gap_in self.old u v strict)) }
+        ensures makes { Makes self.old self.new (λ s. s ≡ gap_of (gap_in self.old u v strict)) }
+        ensures restricted { self.new.restricted ≡ self.old.restricted }
+        ensures simplex { IsSimplex self.new }
+        ensures undo { Notes simplex_undo R.carried trail.old.records trail.new.records self.old
+            self.new }
+    {
+        let unknown = self.make_gap(u, v, strict)?;
+        match self.list(unknown, trail) {
+            Ok(()) => Ok(unknown),
+            Err(AllocError) => Err(Stop::Memory),
+        }
+    }
+
+    /// Makes `u` the unknown of the node.
+    pub fn bind<R: Carries<SimplexRec>>(
+        &mut self,
+        a: Node,
+        u: Unknown,
+        trail: &mut Trail<R>,
+    ) -> Result<(), AllocError>
+        requires simplex { IsSimplex self.old }
+        requires u { IsForTerm self.old u }
+        requires unbound { bound_to self.old.bound a ≡ None }
+        ensures ok { OnOk result (self.new ≡ record self.old {
+          bound = self.old.bound ++ (a, u)
+              ∷ [];
+        }) }
+        ensures err { OnErr result (self.new ≡ self.old) }
+        ensures simplex { IsSimplex self.new }
+        ensures undo { Notes simplex_undo R.carried trail.old.records trail.new.records self.old
+            self.new }
+    {
+        trail.reserve(1)?;
+        self.bound.push((a, u))?;
+        trail.note(R::carry(SimplexRec::Bound));
+        Ok(())
+    }
+
+    /// Restricts the unknown to be at least 0: Closed where the restrictions allow it nowhere.
+    pub fn at_least_zero<R: Carries<SimplexRec>>(
+        &mut self,
+        u: Unknown,
+        trail: &mut Trail<R>,
+    ) -> Result<State, Stop>
+        requires simplex { IsSimplex self.old }
+        requires u { Contains self.old.unknowns u }
+        ensures ends { AtLeastZeroEnds self.old self.new u result }
+        ensures stop { IfErr result (IsBarred self.new (λ t. ⊥) (λ g. ⊥)) }
+        ensures keeps { KeepsLists self.old self.new }
+        ensures simplex { IsSimplex self.new }
+        ensures undo { Notes simplex_undo R.carried trail.old.records trail.new.records self.old
+            self.new }
+    {
+        if self.is_restricted(u) {
+            return Ok(State::Open);
+        }
+        let lifted = self.lift(u)?;
+        if !lifted {
+            return Ok(State::Closed);
+        }
+        match self.restrict(u, trail) {
+            Ok(()) => Ok(State::Open),
+            Err(AllocError) => Err(Stop::Memory),
+        }
+    }
+
+    /// Whether the restrictions allow the two unknowns to have different values.
+    pub fn part(&mut self, u: Unknown, v: Unknown) -> Result<Parted, Stop>
+        requires simplex { IsSimplex self.old }
+        requires u { IsForTerm self.old u }
+        requires v { IsForTerm self.old v }
+        ensures ends { PartEnds self.old u v result }
+        ensures stop { IfErr result (IsBarred self.new (λ t. ⊥)
+            (Contains (both_gaps self.old u v))) }
+        ensures keeps { KeepsLists self.old self.new }
+        ensures restricted { self.new.restricted ≡ self.old.restricted }
+        ensures simplex { IsSimplex self.new }
+    {
+        if !are_alike(self.tableau.value(u), self.tableau.value(v)) {
+            return Ok(Parted::Different);
+        }
+        let above = self.exceeds(u, v)?;
+        if above {
+            return Ok(Parted::Different);
+        }
+        let below = self.exceeds(v, u)?;
+        if below {
+            return Ok(Parted::Different);
+        }
+        Ok(Parted::Equal)
+    }
+
+    /// A copy of the rows, which can be put again.
+    pub fn copy_rows(&self) -> Result<Rows, AllocError>
+        requires simplex { IsSimplex self.now }
+        ensures rows { IfOk result (λ rows. tabled rows ≡ self.now.tableau) }
+        ensures fit { IfOk result (AreRowsFor self.now) }
+    {
+        self.tableau.rows()
+    }
+    // A row for u - v, or for u - v - 1 where it is strict, whose unknown is not in use yet.
+    fn make_gap(&mut self, u: Unknown, v: Unknown, strict: bool) -> Result<Unknown, Stop>
+        requires simplex { IsSimplex self.old }
+        requires u { IsForTerm self.old u }
+        requires v { IsForTerm self.old v }
+        ensures unknown { IfOk result (λ w. w ≡ length self.old.made) }
+        ensures ok { OnOk result (self.new.made ≡ self.old.made ++ Made.Gap u v strict ∷ []) }
+        ensures err { OnErr result (self.new.made ≡ self.old.made) }
+        ensures rest { self.new ≡ record self.old {
+          tableau = self.new.tableau;
+          made
+              = self.new.made;
+        } }
+        ensures simplex { IsSimplex self.new }
+        ensures same { AreSame self.new self.old }
+        ensures ends { GapEnds result }
+        ensures stop { IfErr result (IsBarred self.new (λ t. ⊥) (λ g. g
+            ≡ gap_in self.old u v strict)) }
+    {
+        let entry = Made::Gap {
+            upper: u,
+            lower: v,
+            strict,
+        };
+        let Ok(()) = self.made.push(entry) else {
+            return Err(Stop::Memory);
+        };
+        match add_gap_row(&mut self.tableau, u, v, strict, self.limit, self.alloc) {
+            Ok(unknown) => Ok(unknown),
+            Err(stop) => {
+                let _ = self.made.pop();
+                Err(stop)
+            }
+        }
+    }
+
+    // Brings an unknown into use.
+    fn list<R: Carries<SimplexRec>>(
+        &mut self,
+        u: Unknown,
+        trail: &mut Trail<R>,
+    ) -> Result<(), AllocError>
+        requires simplex { IsSimplex self.old }
+        requires there { u < length self.old.made }
+        requires new { Contains self.old.unknowns u → ⊥ }
+        ensures ok { OnOk result (self.new ≡ record self.old {
+          unknowns = self.old.unknowns ++ u
+              ∷ [];
+        }) }
+        ensures err { OnErr result (self.new ≡ self.old) }
+        ensures simplex { IsSimplex self.new }
+        ensures undo { Notes simplex_undo R.carried trail.old.records trail.new.records self.old
+            self.new }
+    {
+        trail.reserve(1)?;
+        self.unknowns.push(u)?;
+        trail.note(R::carry(SimplexRec::Listed));
+        Ok(())
+    }
+
+    // Whether the unknown is restricted.
+    fn is_restricted(&self, u: Unknown) -> bool
+        ensures { IsTrue result ↔ Contains self.now.restricted u }
+    {
+        is_listed(self.restricted.as_slice(), u)
+    }
+
+    // Brings the unknown to 0 or above, where the restrictions allow it anywhere.
+    fn lift(&mut self, u: Unknown) -> Result<bool, Stop>
+        requires simplex { IsSimplex self.old }
+        requires u { Contains self.old.unknowns u }
+        ensures keeps { KeepsLists self.old self.new }
+        ensures restricted { self.new.restricted ≡ self.old.restricted }
+        ensures simplex { IsSimplex self.new }
+        ensures same { AreSame self.new self.old }
+        ensures ends { IfOk result (LiftShows self.old self.new u) }
+        ensures stop { IfErr result (IsBarred self.new (λ t. ⊥) (λ g. ⊥)) }
+    {
+        lift(&mut self.tableau, u, self.limit)
+    }
+
+    // Restricts an unknown whose sample is at least 0.
+    fn restrict<R: Carries<SimplexRec>>(
+        &mut self,
+        u: Unknown,
+        trail: &mut Trail<R>,
+    ) -> Result<(), AllocError>
+        requires simplex { IsSimplex self.old }
+        requires u { Contains self.old.unknowns u }
+        requires new { Contains self.old.restricted u → ⊥ }
+        requires sample { zero_ℚ ≤ℚ sample self.old.tableau u }
+        ensures ok { OnOk result (self.new.restricted ≡ self.old.restricted ++ u ∷ []) }
+        ensures err { OnErr result (self.new ≡ self.old) }
+        ensures keeps { KeepsLists self.old self.new }
+        ensures simplex { IsSimplex self.new }
+        ensures undo { Notes simplex_undo R.carried trail.old.records trail.new.records self.old
+            self.new }
+    {
+        trail.reserve(1)?;
+        self.restricted.push(u)?;
+        self.tableau.restrict(u);
+        trail.note(R::carry(SimplexRec::Restricted));
+        Ok(())
+    }
+
+    // Whether the first unknown is somewhere above the other within the restrictions.
+    fn exceeds(&mut self, upper: Unknown, lower: Unknown) -> Result<bool, Stop>
+        requires simplex { IsSimplex self.old }
+        requires upper { IsForTerm self.old upper }
+        requires lower { IsForTerm self.old lower }
+        ensures keeps { KeepsLists self.old self.new }
+        ensures restricted { self.new.restricted ≡ self.old.restricted }
+        ensures simplex { IsSimplex self.new }
+        ensures ends { IfOk result (ExceedShows self.old upper lower) }
+        ensures stop { IfErr result (IsBarred self.new (λ t. ⊥) (λ g. g
+            ≡ gap_in self.old upper lower false)) }
+    {
+        exceeds(&mut self.tableau, upper, lower, self.limit, self.alloc)
+    }
+}
+
+fn are_alike(a: Frac, b: Frac) -> bool
+    ensures { IsTrue result ↔ (a ≡ b) }
+{
+    a == b
+}
+
+// Whether the unknown is among these.
+fn is_listed(unknowns: &[Unknown], u: Unknown) -> bool
+    ensures { IsTrue result ↔ Contains unknowns.now u }
+{
+    'unknowns: for place in 0..unknowns.len() {
+        let unknown = unknowns[place];
+        if unknown.same_as(u) {
+            return true;
+        }
+    }
+    false
+}
+
+// The unknown of the first pair with the node.
+fn unknown_in(bound: &[(Node, Unknown)], a: Node) -> Option<Unknown>
+    ensures { result ≡ bound_to bound.now a }
+{
+    'bound: for place in 0..bound.len() {
+        let (node, unknown) = bound[place];
+        if node == a {
+            return Some(unknown);
+        }
+    }
+    None
+}
