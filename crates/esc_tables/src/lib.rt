@@ -9,7 +9,8 @@ use std::alloc::{AllocError, Global};
 /// The most bytes of a table.
 pub const ROOM: usize = 65_536;
 
-/// Fills the front of the room with what the source has, and tells how much that is. A fault counts as the end.
+/// Fills the front of the room with what the source has, and tells how much that is. A fault counts
+/// as the end.
 fn fill<S: Source>(source: &mut S, room: &mut [u8]) -> usize
     ensures { result ≤ length room.old }
 {

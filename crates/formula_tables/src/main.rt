@@ -1,4 +1,5 @@
-//! Formulas from a table: what is printed of each, that it reads as the same formula again, and what becomes of it.
+//! Formulas from a table: what is printed of each, that it reads as the same formula again, and
+//! what becomes of it.
 //!
 //! Each expression of the standard input is a task, and each task prints one line.
 //!
@@ -7,7 +8,8 @@
 //! | `(print F)` | what is printed of the formula, if that reads as the formula again |
 //! | `(negate F)` | what is printed of its negation |
 //! | `(copy F)` | what is printed of a copy, if that is equal to the formula |
-//! | `(replace F (DISTINCT t ..))` | what is printed of the body of a quantified formula with these terms for its variables |
+//! | `(replace F (DISTINCT t ..))` | what is printed of the body of a quantified formula with these
+//! terms for its variables |
 //! | `(ground F)` | its ground terms |
 #![tactic(auto)]
 

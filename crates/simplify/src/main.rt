@@ -1,4 +1,5 @@
-//! The prover as a program: it reads commands from the standard input and writes their answers to the standard output.
+//! The prover as a program: it reads commands from the standard input and writes their answers to
+//! the standard output.
 #![tactic(auto)]
 
 use esc_io::{StdSink, StdSource};

@@ -1,7 +1,8 @@
 //! Whole runs from a table.
 //!
-//! The standard input has inputs, each up to a line of `====`. Each is run over memory in one piece, in pieces of one byte
-//! and in pieces of seven. What the runs write is printed, and the code that they end with; or that they differ.
+//! The standard input has inputs, each up to a line of `====`. Each is run over memory in one
+//! piece, in pieces of one byte and in pieces of seven. What the runs write is printed, and the
+//! code that they end with; or that they differ.
 #![tactic(auto)]
 
 ghost use Rattle.std.specs.Prelude.{◌≤◌, length, IfSome};
