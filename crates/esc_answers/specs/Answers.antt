@@ -10,7 +10,7 @@ use Rattle.esc_report.specs.declared.limits.Limits.{Limits}
 use Rattle.esc_report.specs.declared.report.Refusal.TheVariants.{Unsupported}
 use Rattle.esc_report.specs.declared.report.Report.{Report}
 use Rattle.esc_report.specs.declared.report.Report.TheVariants as report
-use Rattle.esc_answers.specs.State.{State, asked}
+use Rattle.esc_answers.specs.State.{State, with_goal}
 
 -- the report answers the goal with this number, whose expression begins at the place
 abbrev pub AnswersGoal : Limits → Formula → ℕ → ℕ → Report → Type 0
@@ -28,7 +28,8 @@ IsUnsupported s place r t = (r ≡ report.Refused place Unsupported) × (t ≡ s
 
 -- a goal is counted where it is answered
 abbrev pub AnswersWhere : Bool → Limits → State → ℕ → Formula → Report → State → Type 0
-AnswersWhere true limits s place f r t = AnswersGoal limits f (s.goals + 1) place r × (t ≡ asked s)
+AnswersWhere true limits s place f r t = AnswersGoal limits f (s.goals + 1) place r
+    × (t ≡ with_goal s)
 AnswersWhere false limits s place f r t = IsUnsupported s place r t
 
 abbrev pub AnswersKind : Limits → State → ℕ → Kind → Report → State → Type 0

@@ -10,5 +10,5 @@ abbrev pub first_state : State
 first_state = record { goals = 0 }
 
 -- one more goal was asked
-abbrev pub asked : State → State
-asked s = record { goals = s.goals + 1 }
+abbrev pub with_goal : State → State
+with_goal s = record { goals = s.goals + 1 }

@@ -12,7 +12,7 @@ use Rattle.esc_linear.specs.declared.form.Form.{Form}
 use Rattle.esc_linear.specs.declared.form.FormJam.{FormJam}
 use Rattle.esc_linear.specs.Forms.{constant_form, opaque_form, applied, form}
 use Rattle.esc_linear.specs.Laws.{IsLin}
-use Rattle.esc_linear.specs.Steps.{Step, StepFits, AllFit, fold_steps, looks_into, combined_steps, steps, Answers}
+use Rattle.esc_linear.specs.Steps.{Step, StepFits, AllFit, fold_steps, looks_into, combined_steps, steps, Yields}
 use Rattle.esc_linear.proofs.FormLevels.{form-Num, form-Var, form-App, steps-Num, steps-Var, steps-App}
 use Rattle.esc_linear.proofs.StepLemmas.{goes_on}
 
@@ -37,24 +37,24 @@ steps-folded done [] = refl
 steps-folded done (t ∷ ts) = ap (λ rest. steps t ++ rest) (steps-folded (with_form done t) ts)
 
 pub pushed : (fs us : List Form) (f : Form) (t : Term) → us ≡ fs ++ f ∷ []
-    → Answers (Ok f) (steps t) (form t) → Answers (Ok us) (own_steps fs t) (with_form fs t)
-unfolding Answers
+    → Yields (Ok f) (steps t) (form t) → Yields (Ok us) (own_steps fs t) (with_form fs t)
+unfolding Yields
 pushed fs us f t is answered = (answered.0, is ∙ ap (λ g. fs ++ g ∷ []) answered.1)
 
 -- ---- each form of term
 
 pub numeral : (x : Form) (t : Term) (n : ℤ) → t ≡ Num n → x ≡ constant_form (whole n)
-    → Answers (Ok x) (steps t) (form t)
-unfolding Answers
+    → Yields (Ok x) (steps t) (form t)
+unfolding Yields
 numeral x t n is e = (
   subst AllFit (sym (ap steps is ∙ steps-Num n)) (All-nil StepFits),
   e ∙ sym (ap form is ∙ form-Num n),
 )
 
 pub variable : (r : Result Form FormJam) (t : Term) (k : ℕ) → t ≡ Var k
-    → Answers r [] (opaque_form t) → Answers r (steps t) (form t)
+    → Yields r [] (opaque_form t) → Yields r (steps t) (form t)
 variable r t k is h =
-    subst₂ (λ made value. Answers r made value) (sym (ap steps is ∙ steps-Var k)) (ap opaque_form is
+    subst₂ (λ made value. Yields r made value) (sym (ap steps is ∙ steps-Var k)) (ap opaque_form is
     ∙ sym (form-Var k) ∙ ap form (sym is)) h
 
 pub applied-opaque : (head : Head) (other : Form) (fs : List Form) → looks_into head (length fs)
@@ -74,10 +74,10 @@ looked head args b e = ap (looks_into head) (length-map args form) ∙ sym e
 
 pub not_looked_into : (r : Result Form FormJam) (t : Term) (head : Head) (args : List Term)
     (b : Bool) → t ≡ App head args → b ≡ looks_into head (length args) → b ≡ false
-    → Answers r [] (opaque_form t) → Answers r (steps t) (form t)
+    → Yields r [] (opaque_form t) → Yields r (steps t) (form t)
 not_looked_into r t head args b is e outside h =
     let test = looked head args b e ∙ outside in
-    subst₂ (λ made value. Answers r made value)
+    subst₂ (λ made value. Yields r made value)
     (sym (ap steps is ∙ steps-App head args ∙ ap (λ s. cond s (flat_map steps args
     ++ combined_steps head (map form args)) []) test))
     (ap opaque_form is ∙ sym (applied-opaque head (opaque_form (App head args)) (map form args)
@@ -85,11 +85,11 @@ not_looked_into r t head args b is e outside h =
 
 pub looked_into : (r : Result Form FormJam) (t : Term) (head : Head) (args : List Term) (b : Bool)
     → t ≡ App head args → b ≡ looks_into head (length args) → b ≡ true
-    → Answers r (flat_map steps args ++ combined_steps head (map form args))
-    (applied head (opaque_form t) (map form args)) → Answers r (steps t) (form t)
+    → Yields r (flat_map steps args ++ combined_steps head (map form args))
+    (applied head (opaque_form t) (map form args)) → Yields r (steps t) (form t)
 looked_into r t head args b is e yes_it_does h =
     let test = looked head args b e ∙ yes_it_does in
-    subst₂ (λ made value. Answers r made value)
+    subst₂ (λ made value. Yields r made value)
     (sym (ap steps is ∙ steps-App head args ∙ ap (λ s. cond s (flat_map steps args
     ++ combined_steps head (map form args)) []) test))
     (ap (λ u. applied head (opaque_form u) (map form args)) is ∙ sym (form-App head args)
@@ -98,18 +98,18 @@ looked_into r t head args b is e yes_it_does h =
 -- by the answers of the arguments and of what combines them
 pub all_combined : (r : Result Form FormJam) (t : Term) (head : Head) (args : List Term)
     (fs : List Form) (b : Bool) → t ≡ App head args → b ≡ looks_into head (length args) → b ≡ true
-    → Answers (Ok fs) (flat_map steps args) (map form args)
-    → Answers r (combined_steps head fs) (applied head (opaque_form t) fs)
-    → Answers r (steps t) (form t)
-unfolding Answers
+    → Yields (Ok fs) (flat_map steps args) (map form args)
+    → Yields r (combined_steps head fs) (applied head (opaque_form t) fs)
+    → Yields r (steps t) (form t)
+unfolding Yields
 all_combined r t head args fs b is e yes_it_does inside h =
     looked_into r t head args b is e yes_it_does
     (goes_on r (flat_map steps args) _ _ inside.0 (subst
-    (λ gs. Answers r (combined_steps head gs) (applied head (opaque_form t) gs)) inside.1 h))
+    (λ gs. Yields r (combined_steps head gs) (applied head (opaque_form t) gs)) inside.1 h))
 
 -- an answer is the linear meaning
-pub linear_answer : (r : Result Form FormJam) (t : Term) → Answers r (steps t) (form t)
+pub linear_answer : (r : Result Form FormJam) (t : Term) → Yields r (steps t) (form t)
     → IsLin t (form t) → IfOk r (IsLin t)
-unfolding Answers
+unfolding Yields
 linear_answer (Ok f) t answered l = subst (IsLin t) (sym answered.1) l
 linear_answer (Err e) t answered l = tt

@@ -4,13 +4,13 @@ use Rattle.std.specs.List.{fold}
 use Rattle.std.specs.Result.{IsErrAnd}
 use Rattle.std.proofs.lemmas.List.{drop_more, drop_all}
 use Rattle.esc_linear.specs.declared.form.FormJam.{FormJam}
-use Rattle.esc_linear.specs.Steps.{Step, fold_steps, Answers}
+use Rattle.esc_linear.specs.Steps.{Step, fold_steps, Yields}
 use Rattle.esc_linear.proofs.StepLemmas.{goes_on, handed_on, ends}
 
 module _ {S X : Type 0} (step : S → X → S) (own : S → X → List Step) where
   -- the fold over a list, answered
   abbrev pub IsFolded : Result S FormJam → S → List X → Type 0
-  IsFolded r s xs = Answers r (fold_steps step own s xs) (fold step s xs)
+  IsFolded r s xs = Yields r (fold_steps step own s xs) (fold step s xs)
 
   -- i items are done, and t is what they gave
   pub record Goes (s : S) (xs : List X) (i : ℕ) (t : S) : Type 0 where
@@ -21,7 +21,7 @@ module _ {S X : Type 0} (step : S → X → S) (own : S → X → List Step) whe
 
   at_item : (r : Result S FormJam) (xs : List X) (i : ℕ) (t : S) (x : X) → i < length xs → x
       ≡ get_or xs i x
-      → Answers r (own t x ++ fold_steps step own (step t x) (drop (i + 1) xs))
+      → Yields r (own t x ++ fold_steps step own (step t x) (drop (i + 1) xs))
       (fold step (step t x) (drop (i + 1) xs)) → IsFolded r t (drop i xs)
   unfolding fold_steps
   at_item r xs i t x within is h = subst (λ ys. IsFolded r t ys) (ap (λ y. y ∷ drop (i + 1) xs) is
@@ -29,8 +29,8 @@ module _ {S X : Type 0} (step : S → X → S) (own : S → X → List Step) whe
 
   -- an item more, whose steps fit
   pub goes : (s : S) (xs : List X) (i : ℕ) (t u : S) (x : X) → i < length xs → x ≡ get_or xs i x
-      → Answers (Ok u) (own t x) (step t x) → Goes s xs i t → Goes s xs (i + 1) u
-  unfolding Answers
+      → Yields (Ok u) (own t x) (step t x) → Goes s xs i t → Goes s xs (i + 1) u
+  unfolding Yields
   goes s xs i t u x within is answered h = record {
     on = λ r k. h.on r (at_item r xs i t x within is
         (goes_on r (own t x) _ _ answered.0 (subst (λ v. IsFolded r v (drop (i + 1) xs))
@@ -41,7 +41,7 @@ module _ {S X : Type 0} (step : S → X → S) (own : S → X → List Step) whe
   pub stops : {B : Type 0} (s : S) (xs : List X) (i : ℕ) (t : S) (x : X) (r : Result S FormJam)
       (q : Result B FormJam) (w : B) (e : FormJam) → i < length xs → x ≡ get_or xs i x
       → IsErrAnd r (λ f. f ≡ e) → q ≡ Err e
-      → Answers q (own t x) w → Goes s xs i t → IsFolded r s xs
+      → Yields q (own t x) w → Goes s xs i t → IsFolded r s xs
   stops s xs i t x r q w e within is error was answered h =
       h.on r (at_item r xs i t x within is (handed_on r q e (own t x) _ _ _ error was answered))
 

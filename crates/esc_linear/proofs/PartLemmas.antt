@@ -10,7 +10,7 @@ use Rattle.esc_frac.specs.RationalLaws.{zero_from_num}
 use Rattle.esc_frac.proofs.FieldLaws.{+ℚ_comm, +ℚ_assoc, +ℚ-zero, zero-+ℚ, +ℚ_right_comm, neg_ℚ-zero, neg_ℚ-+ℚ, neg_ℚ-*ℚ, +ℚ-*ℚ, zero-*ℚ, *ℚ_right_comm}
 use Rattle.esc_linear.specs.declared.form.Part.{Part}
 use Rattle.esc_linear.specs.Forms.{part, with_factor, with_part, with_parts, scaled_parts}
-use Rattle.esc_linear.specs.Laws.{Assignment, weighted, Apart}
+use Rattle.esc_linear.specs.Laws.{Valuation, weighted, Apart}
 use Rattle.esc_linear.specs.PlacesInside.{IsNowhere}
 
 -- ---- tests
@@ -31,7 +31,7 @@ differ_when s t h = go (same_term s t) refl
 
 -- ---- values
 
-pub weighted-with_factor : (v : Assignment) (t : Term) (q : ℚ) (ps : List Part)
+pub weighted-with_factor : (v : Valuation) (t : Term) (q : ℚ) (ps : List Part)
     → weighted v (with_factor t q ps) ≡ q *ℚ v t +ℚ weighted v ps
 unfolding weighted
 weighted-with_factor v t q ps = go (is_zero q) refl
@@ -42,7 +42,7 @@ weighted-with_factor v t q ps = go (is_zero q) refl
         ∙ ap (λ x. x *ℚ v t) (sym (zero_when q e)))
     go false e = refl
 
-pub weighted-with_part : (v : Assignment) (ps : List Part) (t : Term) (q : ℚ)
+pub weighted-with_part : (v : Valuation) (ps : List Part) (t : Term) (q : ℚ)
     → weighted v (with_part ps t q) ≡ weighted v ps +ℚ q *ℚ v t
 unfolding weighted with_part
 weighted-with_part v [] t q = weighted-with_factor v t q [] ∙ +ℚ_comm (q *ℚ v t) zero_ℚ
@@ -60,7 +60,7 @@ weighted-with_part v (p ∷ ps) t q = go (weighted-with_part v ps t q) (same_ter
         ap (λ x. p.factor *ℚ v p.term +ℚ x) later
         ∙ sym (+ℚ_assoc (p.factor *ℚ v p.term) (weighted v ps) (q *ℚ v t))
 
-pub weighted-with_parts : (v : Assignment) (ps qs : List Part) → weighted v (with_parts ps qs)
+pub weighted-with_parts : (v : Valuation) (ps qs : List Part) → weighted v (with_parts ps qs)
     ≡ weighted v ps +ℚ weighted v qs
 unfolding weighted
 weighted-with_parts v ps [] = sym (+ℚ-zero (weighted v ps))
@@ -72,7 +72,7 @@ weighted-with_parts v ps (q ∷ qs) =
 abbrev pub negative_part : Part → Part
 negative_part p = part p.term (neg_ℚ p.factor)
 
-pub weighted-negative : (v : Assignment) (ps : List Part) → weighted v (map negative_part ps)
+pub weighted-negative : (v : Valuation) (ps : List Part) → weighted v (map negative_part ps)
     ≡ neg_ℚ (weighted v ps)
 unfolding weighted
 weighted-negative v [] = sym neg_ℚ-zero
@@ -80,7 +80,7 @@ weighted-negative v (p ∷ ps) =
     ap₂ (λ x y. x +ℚ y) (neg_ℚ-*ℚ p.factor (v p.term)) (weighted-negative v ps)
     ∙ sym (neg_ℚ-+ℚ (p.factor *ℚ v p.term) (weighted v ps))
 
-pub weighted-scaled_parts : (v : Assignment) (ps : List Part) (q : ℚ)
+pub weighted-scaled_parts : (v : Valuation) (ps : List Part) (q : ℚ)
     → weighted v (scaled_parts ps q) ≡ weighted v ps *ℚ q
 unfolding weighted scaled_parts
 weighted-scaled_parts v [] q = sym (zero-*ℚ q)

@@ -10,7 +10,7 @@ use Rattle.esc_linear.specs.declared.form.Form.{Form}
 use Rattle.esc_linear.specs.declared.form.FormJam.{FormJam}
 use Rattle.esc_linear.specs.declared.form.Part.{Part}
 use Rattle.esc_linear.specs.Forms.{part, constant_form, with_factor, is_constant, varying, with_constant, factor_of, scaled, scaled_parts, scaled_first, times}
-use Rattle.esc_linear.specs.Steps.{Step, StepFits, AllFit, multiplies, fold_steps, constant_steps, factor_steps, scaled_part_steps, scaled_steps, scaled_first_steps, times_steps, Answers}
+use Rattle.esc_linear.specs.Steps.{Step, StepFits, AllFit, multiplies, fold_steps, constant_steps, factor_steps, scaled_part_steps, scaled_steps, scaled_first_steps, times_steps, Yields}
 use Rattle.esc_linear.proofs.StepLemmas.{goes_on}
 
 -- the parts so far, and one more times the factor
@@ -90,8 +90,8 @@ varying-none fs i all = ap varying (drop_all i fs all)
 -- ---- the whole product
 
 pub no_constant : (q : ℚ) (f : Form) (b : Bool) → is_constant f.parts ≡ b → b ≡ false
-    → Answers (Ok q) (constant_steps q f) (with_constant q f)
-unfolding Answers
+    → Yields (Ok q) (constant_steps q f) (with_constant q f)
+unfolding Yields
 no_constant q f b test e = (
   subst AllFit (sym (ap (λ t. cond t (multiplies q f.constant ∷ []) []) (test ∙ e)))
       (All-nil StepFits),
@@ -99,35 +99,35 @@ no_constant q f b test e = (
 )
 
 pub a_constant : (r : Result ℚ FormJam) (q : ℚ) (f : Form) (b : Bool) → is_constant f.parts ≡ b → b
-    ≡ true → Answers r (multiplies q f.constant ∷ []) (q *ℚ f.constant)
-    → Answers r (constant_steps q f) (with_constant q f)
+    ≡ true → Yields r (multiplies q f.constant ∷ []) (q *ℚ f.constant)
+    → Yields r (constant_steps q f) (with_constant q f)
 a_constant r q f b test e h =
-    subst (λ t. Answers r (cond t (multiplies q f.constant ∷ []) []) (cond t (q *ℚ f.constant) q))
+    subst (λ t. Yields r (cond t (multiplies q f.constant ∷ []) []) (cond t (q *ℚ f.constant) q))
     (sym (test ∙ e)) h
 
 pub product_of_one : (r : Result Form FormJam) (fs rest : List Form) (f : Form) (q : ℚ) → varying fs
-    ≡ f ∷ rest → Answers (Ok q) (factor_steps fs) (factor_of fs)
-    → Answers r (scaled_steps f q) (scaled f q)
-    → Answers r (factor_steps fs ++ scaled_first_steps (varying fs) (factor_of fs))
+    ≡ f ∷ rest → Yields (Ok q) (factor_steps fs) (factor_of fs)
+    → Yields r (scaled_steps f q) (scaled f q)
+    → Yields r (factor_steps fs ++ scaled_first_steps (varying fs) (factor_of fs))
     (scaled_first (varying fs) (factor_of fs))
-unfolding scaled_first scaled_first_steps Answers
+unfolding scaled_first scaled_first_steps Yields
 product_of_one r fs rest f q e factor h =
     goes_on r (factor_steps fs) (scaled_first_steps (varying fs) (factor_of fs)) _ factor.0
-    (subst₂ (λ gs p. Answers r (scaled_first_steps gs p) (scaled_first gs p)) (sym e) factor.1 h)
+    (subst₂ (λ gs p. Yields r (scaled_first_steps gs p) (scaled_first gs p)) (sym e) factor.1 h)
 
 pub product_of_none : (x : Form) (fs : List Form) (q : ℚ) → varying fs ≡ []
-    → Answers (Ok q) (factor_steps fs) (factor_of fs) → x ≡ constant_form q
-    → Answers (Ok x) (factor_steps fs ++ scaled_first_steps (varying fs) (factor_of fs))
+    → Yields (Ok q) (factor_steps fs) (factor_of fs) → x ≡ constant_form q
+    → Yields (Ok x) (factor_steps fs ++ scaled_first_steps (varying fs) (factor_of fs))
     (scaled_first (varying fs) (factor_of fs))
-unfolding scaled_first scaled_first_steps Answers
+unfolding scaled_first scaled_first_steps Yields
 product_of_none x fs q e factor is =
     goes_on (Ok x) (factor_steps fs) (scaled_first_steps (varying fs) (factor_of fs)) _ factor.0
-    (subst₂ (λ gs p. Answers (Ok x) (scaled_first_steps gs p) (scaled_first gs p)) (sym e) factor.1
+    (subst₂ (λ gs p. Yields (Ok x) (scaled_first_steps gs p) (scaled_first gs p)) (sym e) factor.1
     (All-nil StepFits, is))
 
 pub opaque_product : (x other : Form) (fs : List Form) → 2 ≤ length (varying fs) → x ≡ other
-    → Answers (Ok x) (times_steps fs) (times other fs)
-unfolding Answers
+    → Yields (Ok x) (times_steps fs) (times other fs)
+unfolding Yields
 opaque_product x other fs several is =
     let test = le-ltb (length (varying fs)) 2 several in (
       subst AllFit (sym (ap (λ b. cond b (factor_steps fs

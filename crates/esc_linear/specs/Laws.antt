@@ -12,19 +12,19 @@ use Rattle.esc_linear.specs.Forms.{form, less, opaque_form}
 use Rattle.esc_linear.specs.Lin.{lin}
 
 -- what each term that arithmetic does not look into stands for
-abbrev pub Assignment : Type 0
-Assignment = Term → ℚ
+abbrev pub Valuation : Type 0
+Valuation = Term → ℚ
 
-unfoldable pub weighted : Assignment → List Part → ℚ
+unfoldable pub weighted : Valuation → List Part → ℚ
 weighted v [] = zero_ℚ
 weighted v (p ∷ ps) = p.factor *ℚ v p.term +ℚ weighted v ps
 
--- the value of a form under an assignment
-abbrev pub value : Assignment → Form → ℚ
-value v f = f.constant +ℚ weighted v f.parts
+-- the value of a form under a valuation
+abbrev pub form_value : Valuation → Form → ℚ
+form_value v f = f.constant +ℚ weighted v f.parts
 
 -- 1 for one term, and 0 for the others
-abbrev pub only : Term → Assignment
+abbrev pub only : Term → Valuation
 only o t = if same_term o t then one_ℚ else zero_ℚ
 
 -- the coefficient of the term, 0 where it is not in the form
@@ -55,12 +55,13 @@ FormIsLin = (t : Term) → IsLin t (form t)
 
 -- in each model the form has the value of the term
 abbrev pub FormHasValue : Type 0
-FormHasValue = (M : Model) (t : Term) → value (λ o. whole (value_in M o)) (form t)
+FormHasValue = (M : Model) (t : Term) → form_value (λ o. whole (value_in M o)) (form t)
     ≡ whole (value_in M t)
 
 -- a difference has the difference of the values
 abbrev pub DifferenceHasValue : Type 0
-DifferenceHasValue = (v : Assignment) (a b : Form) → value v (less a b) ≡ value v a -ℚ value v b
+DifferenceHasValue = (v : Valuation) (a b : Form) → form_value v (less a b)
+    ≡ form_value v a -ℚ form_value v b
 
 abbrev pub DifferenceIsNormal : Type 0
 DifferenceIsNormal = (a b : Form) → IsNormal a → IsNormal (less a b)

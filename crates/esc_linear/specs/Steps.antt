@@ -112,7 +112,7 @@ steps = para-Term (List Step) steps_step
 -- ---- what a call answers
 
 -- the value where all steps fit; a spill only where one does not
-unfoldable pub Answers : {A : Type 0} → Result A FormJam → List Step → A → Type 0
-Answers (Ok x) made value = AllFit made × (x ≡ value)
-Answers (Err Spill) made value = ¬ (AllFit made)
-Answers (Err Memory) made value = Unit
+unfoldable pub Yields : {A : Type 0} → Result A FormJam → List Step → A → Type 0
+Yields (Ok x) made value = AllFit made × (x ≡ value)
+Yields (Err Spill) made value = ¬ (AllFit made)
+Yields (Err Memory) made value = Unit

@@ -6,7 +6,7 @@ ghost use Rattle.esc_term.specs.declared.term.Head.TheVariants.{Sub};
 ghost use Rattle.esc_frac.specs.Rational.{whole};
 ghost use Rattle.esc_linear.specs.Forms.{applied, constant_form, form as form_by_rules, opaque_form};
 ghost use Rattle.esc_linear.specs.Laws.{IsLin};
-ghost use Rattle.esc_linear.specs.Steps.{Answers, combined_steps, looks_into as is_looked_into, steps};
+ghost use Rattle.esc_linear.specs.Steps.{Yields, combined_steps, looks_into as is_looked_into, steps};
 
 use crate::form::{Form, FormJam};
 use crate::product::times;
@@ -24,7 +24,7 @@ type Forms = Items<Form>;
 /// more than one such form is opaque, as is any other term: it stands in its form with coefficient
 /// 1. `Spill` exactly where a step of this is out of range.
 pub fn form_of(alloc: Global, term: &Term) -> Result<Form, FormJam>
-    ensures exact { Answers result (steps term.now) (form_by_rules term.now) }
+    ensures exact { Yields result (steps term.now) (form_by_rules term.now) }
     ensures linear { IfOk result (IsLin term.now) }
 {
     evaluated(alloc, term)
@@ -32,7 +32,7 @@ pub fn form_of(alloc: Global, term: &Term) -> Result<Form, FormJam>
 
 #[cycle(evaluated)]
 fn evaluated(alloc: Global, term: &Term) -> Result<Form, FormJam>
-    ensures { Answers result (steps term.now) (form_by_rules term.now) }
+    ensures { Yields result (steps term.now) (form_by_rules term.now) }
 {
     match term {
         Term::Num(n) => Ok(numeral(alloc, n)),
@@ -49,7 +49,7 @@ fn evaluated(alloc: Global, term: &Term) -> Result<Form, FormJam>
 
 #[cycle(evaluated)]
 fn forms_of(alloc: Global, terms: &[Term]) -> Result<Forms, FormJam>
-    ensures { Answers result (flat_map steps terms.now) (map form_by_rules terms.now) }
+    ensures { Yields result (flat_map steps terms.now) (map form_by_rules terms.now) }
 {
     let mut forms = Items::new(alloc);
     'terms: for term in terms {
@@ -70,7 +70,7 @@ fn looks_into(head: Head, count: usize) -> bool
 
 // The form of the term, an application of the head, by the forms of its arguments.
 fn combined(alloc: Global, term: &Term, head: Head, forms: &[Form]) -> Result<Form, FormJam>
-    ensures { Answers result (combined_steps head forms.now)
+    ensures { Yields result (combined_steps head forms.now)
         (applied head (opaque_form term.now) forms.now) }
 {
     match head {
@@ -82,7 +82,7 @@ fn combined(alloc: Global, term: &Term, head: Head, forms: &[Form]) -> Result<Fo
 }
 
 fn difference(alloc: Global, term: &Term, forms: &[Form]) -> Result<Form, FormJam>
-    ensures { Answers result (combined_steps Sub forms.now)
+    ensures { Yields result (combined_steps Sub forms.now)
         (applied Sub (opaque_form term.now) forms.now) }
 {
     match forms {
@@ -99,7 +99,7 @@ fn numeral(alloc: Global, number: &i64) -> Form
 }
 
 fn opaque(alloc: Global, term: &Term) -> Result<Form, FormJam>
-    ensures { Answers result [] (opaque_form term.now) }
+    ensures { Yields result [] (opaque_form term.now) }
 {
     Ok(Form::opaque(alloc, term)?)
 }

@@ -3,7 +3,7 @@
 ghost use Rattle.std.specs.Prelude.{◌≡◌, [], ◌∷◌, ◌++◌, length};
 ghost use Rattle.esc_frac.specs.Rational.{◌*ℚ◌};
 ghost use Rattle.esc_linear.specs.Forms.{factor_of, with_constant, with_factor, scaled as scaled_of, scaled_first, scaled_parts as scaled_parts_of, times as times_of, opaque_form, varying};
-ghost use Rattle.esc_linear.specs.Steps.{Answers, constant_steps, factor_steps, multiplies, scaled_first_steps, scaled_part_steps, scaled_steps, times_steps};
+ghost use Rattle.esc_linear.specs.Steps.{Yields, constant_steps, factor_steps, multiplies, scaled_first_steps, scaled_part_steps, scaled_steps, times_steps};
 
 use crate::form::{Form, FormJam, Part, Parts};
 use esc_frac::Frac;
@@ -14,7 +14,7 @@ use std::alloc::Global;
 /// The product of the forms of the term's arguments. It is opaque where more than one of them is no
 /// constant.
 pub(crate) fn times(alloc: Global, term: &Term, forms: &[Form]) -> Result<Form, FormJam>
-    ensures { Answers result (times_steps forms.now) (times_of (opaque_form term.now) forms.now) }
+    ensures { Yields result (times_steps forms.now) (times_of (opaque_form term.now) forms.now) }
 {
     if count_varying(forms) < 2 {
         return product(alloc, forms);
@@ -25,7 +25,7 @@ pub(crate) fn times(alloc: Global, term: &Term, forms: &[Form]) -> Result<Form, 
 // The product of forms of which at most one is no constant: that one times the product of the
 // others, or this product alone.
 fn product(alloc: Global, forms: &[Form]) -> Result<Form, FormJam>
-    ensures { Answers result (factor_steps forms.now
+    ensures { Yields result (factor_steps forms.now
         ++ scaled_first_steps (varying forms.now) (factor_of forms.now))
         (scaled_first (varying forms.now) (factor_of forms.now)) }
 {
@@ -53,7 +53,7 @@ fn count_varying(forms: &[Form]) -> usize
 
 // The product of the constants, from the left.
 fn factor(forms: &[Form]) -> Result<Frac, FormJam>
-    ensures { Answers result (factor_steps forms.now) (factor_of forms.now) }
+    ensures { Yields result (factor_steps forms.now) (factor_of forms.now) }
 {
     let mut factor = Frac::whole(1);
     'forms: for form in forms {
@@ -64,7 +64,7 @@ fn factor(forms: &[Form]) -> Result<Frac, FormJam>
 
 // The factor times the form, where that is a constant.
 fn times_constant(factor: Frac, form: &Form) -> Result<Frac, FormJam>
-    ensures { Answers result (constant_steps factor form.now) (with_constant factor form.now) }
+    ensures { Yields result (constant_steps factor form.now) (with_constant factor form.now) }
 {
     if !form.is_constant() {
         return Ok(factor);
@@ -74,7 +74,7 @@ fn times_constant(factor: Frac, form: &Form) -> Result<Frac, FormJam>
 
 // Each coefficient times the factor, and then the constant.
 fn scaled(alloc: Global, form: &Form, factor: Frac) -> Result<Form, FormJam>
-    ensures { Answers result (scaled_steps form.now factor) (scaled_of form.now factor) }
+    ensures { Yields result (scaled_steps form.now factor) (scaled_of form.now factor) }
 {
     let parts = scaled_parts(alloc, form.parts.as_slice(), factor)?;
     let constant = Frac::mul(form.constant, factor)?;
@@ -82,7 +82,7 @@ fn scaled(alloc: Global, form: &Form, factor: Frac) -> Result<Form, FormJam>
 }
 
 fn scaled_parts(alloc: Global, parts: &[Part], factor: Frac) -> Result<Parts, FormJam>
-    ensures { Answers result (scaled_part_steps parts.now factor)
+    ensures { Yields result (scaled_part_steps parts.now factor)
         (scaled_parts_of parts.now factor) }
 {
     let mut products = Items::new(alloc);
@@ -99,7 +99,7 @@ fn add_scaled(
     part: &Part,
     factor: Frac,
 ) -> Result<Parts, FormJam>
-    ensures { Answers result (multiplies part.now.factor factor ∷ []) (products
+    ensures { Yields result (multiplies part.now.factor factor ∷ []) (products
         ++ with_factor part.now.term (part.now.factor *ℚ factor) []) }
 {
     let product = Frac::mul(part.factor, factor)?;

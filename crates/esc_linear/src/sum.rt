@@ -4,7 +4,7 @@ ghost use Rattle.std.specs.Prelude.{◌≡◌, ◌≢◌, ◌<◌, [], length, g
 ghost use Rattle.std.specs.List.{All};
 ghost use Rattle.esc_linear.specs.Forms.{with_part, with_parts, plus as plus_of, negative as negative_of, less, total as total_of};
 ghost use Rattle.esc_linear.specs.PlacesInside.{IsPlaceOf, IsNowhere};
-ghost use Rattle.esc_linear.specs.Steps.{Answers, part_steps, parts_steps, plus_steps, less_steps, total_steps};
+ghost use Rattle.esc_linear.specs.Steps.{Yields, part_steps, parts_steps, plus_steps, less_steps, total_steps};
 
 use crate::form::{Form, FormJam, Part, Parts};
 use esc_frac::Frac;
@@ -16,14 +16,14 @@ use std::alloc::{AllocError, Global};
 /// then its constant. Terms that are new stand behind the others, and a term whose coefficient
 /// becomes 0 is dropped. `Spill` exactly where a step is out of range.
 pub fn minus(alloc: Global, a: &Form, b: &Form) -> Result<Form, FormJam>
-    ensures { Answers result (less_steps a.now b.now) (less a.now b.now) }
+    ensures { Yields result (less_steps a.now b.now) (less a.now b.now) }
 {
     subtract(alloc, a.copy(alloc)?, b)
 }
 
 /// The first form less the second.
 pub(crate) fn subtract(alloc: Global, a: Form, b: &Form) -> Result<Form, FormJam>
-    ensures { Answers result (less_steps a b.now) (less a b.now) }
+    ensures { Yields result (less_steps a b.now) (less a b.now) }
 {
     let taken = negative(alloc, b)?;
     plus(alloc, a, &taken)
@@ -31,7 +31,7 @@ pub(crate) fn subtract(alloc: Global, a: Form, b: &Form) -> Result<Form, FormJam
 
 /// The sum of the forms, from the left.
 pub(crate) fn total(alloc: Global, forms: &[Form]) -> Result<Form, FormJam>
-    ensures { Answers result (total_steps forms.now) (total_of forms.now) }
+    ensures { Yields result (total_steps forms.now) (total_of forms.now) }
 {
     let mut sum = Form::constant(alloc, Frac::whole(0));
     'forms: for form in forms {
@@ -43,7 +43,7 @@ pub(crate) fn total(alloc: Global, forms: &[Form]) -> Result<Form, FormJam>
 // The sum of two forms: the coefficients of the second are added in their order, and then its
 // constant.
 fn plus(alloc: Global, a: Form, b: &Form) -> Result<Form, FormJam>
-    ensures { Answers result (plus_steps a b.now) (plus_of a b.now) }
+    ensures { Yields result (plus_steps a b.now) (plus_of a b.now) }
 {
     let Form { parts, constant } = a;
     let parts = add_parts(alloc, parts, b.parts.as_slice())?;
@@ -52,7 +52,7 @@ fn plus(alloc: Global, a: Form, b: &Form) -> Result<Form, FormJam>
 }
 
 fn add_parts(alloc: Global, parts: Parts, more: &[Part]) -> Result<Parts, FormJam>
-    ensures { Answers result (parts_steps parts more.now) (with_parts parts more.now) }
+    ensures { Yields result (parts_steps parts more.now) (with_parts parts more.now) }
 {
     let mut sums = parts;
     'parts: for part in more {
@@ -63,7 +63,7 @@ fn add_parts(alloc: Global, parts: Parts, more: &[Part]) -> Result<Parts, FormJa
 
 // Adds to the coefficient of the term.
 fn add_part(alloc: Global, parts: Parts, term: &Term, factor: Frac) -> Result<Parts, FormJam>
-    ensures { Answers result (part_steps parts term.now factor) (with_part parts term.now factor) }
+    ensures { Yields result (part_steps parts term.now factor) (with_part parts term.now factor) }
 {
     match place_of(parts.as_slice(), term) {
         Some(place) => add_at(alloc, parts, place, term, factor),
@@ -92,7 +92,7 @@ fn add_at(
     factor: Frac,
 ) -> Result<Parts, FormJam>
     requires { IsPlaceOf parts term.now place }
-    ensures { Answers result (part_steps parts term.now factor) (with_part parts term.now factor) }
+    ensures { Yields result (part_steps parts term.now factor) (with_part parts term.now factor) }
 {
     let old = parts.as_slice()[place].factor;
     let sum = Frac::add(old, factor)?;
@@ -108,7 +108,7 @@ fn add_at(
 #[tactic(auto, using(crate::proofs::StepLemmas::answering))]
 fn add_at_end(alloc: Global, mut parts: Parts, term: &Term, factor: Frac) -> Result<Parts, FormJam>
     requires { IsNowhere parts term.now }
-    ensures { Answers result (part_steps parts term.now factor) (with_part parts term.now factor) }
+    ensures { Yields result (part_steps parts term.now factor) (with_part parts term.now factor) }
 {
     if factor.is_zero() {
         return Ok(parts);

@@ -85,7 +85,8 @@ pub fn first_unsatisfied(context: &Context<'_>, at: usize) -> Option<usize>
     requires within { at ≤ length (clauses_in context.now) }
     ensures { MatchOption result
         (ArePassed (stage_of context.now) at (length (stage_of context.now).clauses))
-        (λ place. (place < length (stage_of context.now).clauses) × ArePassed (stage_of context.now) at place) }
+        (λ place. (place < length (stage_of context.now).clauses)
+        × ArePassed (stage_of context.now) at place) }
 {
     for place in at..context.clauses.len() {
         if !is_satisfied(&context.branch, &context.clauses[place]) {

@@ -22,7 +22,7 @@ use Rattle.esc_read.specs.declared.token.Token.TheVariants as token
 use Rattle.esc_read.specs.declared.term.TermHead.{TermHead}
 use Rattle.esc_read.specs.declared.term.TermHead.TheVariants as by
 use Rattle.esc_read.specs.Reading.{Numbering, Outcome, Reading, Variables, depth_of, give, refuse}
-use Rattle.esc_read.specs.Reading.{number_of, and_then, ◌>>=◌, ◌<$>◌, each, counted}
+use Rattle.esc_read.specs.Reading.{name_number, and_then, ◌>>=◌, ◌<$>◌, each, counted}
 use Rattle.esc_names.specs.BareNames.{digits_of}
 use Rattle.esc_read.specs.Tokens.{bare_token, decimal_value, numeral, place_of, text_of, token_of}
 use Rattle.esc_read.specs.Names.{permit, symbol}
@@ -92,7 +92,7 @@ named_bound scope (Some k) text number t below e =
     ap (binds_term (length scope)) (sym (gave (Var k) t scope number e))
     ∙ binds_term-Var (length scope) k ∙ below k refl
 named_bound scope None text number t below e =
-    let w = went (number_of text) (λ symbol. give (App (head.Name symbol) [])) scope number t e in
+    let w = went (name_number text) (λ symbol. give (App (head.Name symbol) [])) scope number t e in
     ap (binds_term (length scope)) (sym (gave _ t scope number w.rest))
     ∙ binds_term-App (length scope) (head.Name w.part) []
 

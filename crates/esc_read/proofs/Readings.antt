@@ -12,7 +12,7 @@ use Rattle.esc_read.specs.declared.fault.FormKind.{FormKind}
 use Rattle.esc_read.specs.declared.fault.FormStop.{FormStop}
 use Rattle.esc_read.specs.declared.fault.FormStop.TheVariants.{Fault, Memory}
 use Rattle.esc_read.specs.Reading.{Context, Declares, Numbering, Outcome, Reading, ReadsIn}
-use Rattle.esc_read.specs.Reading.{Variables, counting, within, depth_of, give, refuse, number_of}
+use Rattle.esc_read.specs.Reading.{Variables, counting, within, depth_of, give, refuse, name_number}
 use Rattle.esc_read.specs.Reading.{and_then, ◌>>=◌, each, Numbers, Extends, Tells, ReadsBy, Plain}
 
 -- ---- tables that grow
@@ -156,8 +156,8 @@ Plain-passed {reading = reading} o p e f = subst (λ x. Plain x reading) (e ∙ 
 -- a name that the table numbers
 pub Reads-number : {t u : List (List ℕ)} (text : List ℕ) (symbol : Sym) (scope : Variables)
     → IsNumbered t text u → slice_get u symbol.0 ≡ Some text
-    → ReadsBy t u (Ok symbol) (number_of text scope)
-unfolding number_of
+    → ReadsBy t u (Ok symbol) (name_number text scope)
+unfolding name_number
 Reads-number text symbol scope grown named = record {
   grown = Extends-numbered text grown;
   told =

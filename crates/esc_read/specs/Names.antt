@@ -9,7 +9,7 @@ use Rattle.esc_read.specs.declared.fault.FormKind.TheVariants.{NotATerm, Reserve
 use Rattle.esc_read.specs.declared.fault.FormKind.TheVariants.{DuplicateVariable}
 use Rattle.esc_read.specs.declared.token.Token.{Token}
 use Rattle.esc_read.specs.declared.token.Token.TheVariants as token
-use Rattle.esc_read.specs.Reading.{Reading, Variables, give, refuse, number_of, ◌>>=◌}
+use Rattle.esc_read.specs.Reading.{Reading, Variables, give, refuse, name_number, ◌>>=◌}
 use Rattle.esc_read.specs.Tokens.{place_of, text_of, token_of}
 
 -- the prover makes names that begin so
@@ -23,7 +23,7 @@ permit place text = if is_kept text then refuse ReservedName place else give tt
 unfoldable pub symbol : ℕ → List ℕ → Reading Sym
 symbol place text = do
   _ ← permit place text
-  number_of text
+  name_number text
 
 -- any token is a label
 abbrev pub label_by : Token → Sexp → Reading Sym

@@ -35,8 +35,8 @@ unfoldable pub refuse : {A : Type 0} → FormKind → ℕ → Reading A
 refuse kind place scope number = Err (record { kind = kind; place = place })
 
 -- the number of a name
-unfoldable pub number_of : List ℕ → Reading Sym
-number_of text scope number = Ok (record { 0 = number text })
+unfoldable pub name_number : List ℕ → Reading Sym
+name_number text scope number = Ok (record { 0 = number text })
 
 -- how many variables stand inside the innermost of this name
 unfoldable pub depth_of : List ℕ → Reading (Option ℕ)

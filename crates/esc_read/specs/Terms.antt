@@ -16,7 +16,7 @@ use Rattle.esc_names.specs.declared.key.Operator.TheVariants as operator
 use Rattle.esc_names.specs.declared.key.Key.TheVariants as key
 use Rattle.esc_read.specs.declared.token.Token.{Token}
 use Rattle.esc_read.specs.declared.token.Token.TheVariants as token
-use Rattle.esc_read.specs.Reading.{Reading, depth_of, give, refuse, number_of, ◌>>=◌, ◌<$>◌, each}
+use Rattle.esc_read.specs.Reading.{Reading, depth_of, give, refuse, name_number, ◌>>=◌, ◌<$>◌, each}
 use Rattle.esc_read.specs.Reading.{counted}
 use Rattle.esc_names.specs.BareNames.{digits_of}
 use Rattle.esc_read.specs.Tokens.{bare_token, decimal_value, numeral, place_of, text_of, token_of}
@@ -35,7 +35,7 @@ numeral_term place text =
 abbrev pub variable_or_constant : Option ℕ → List ℕ → Reading Term
 variable_or_constant (Some k) name = give (Var k)
 variable_or_constant None name = do
-  symbol ← number_of name
+  symbol ← name_number name
   give (App (head.Name symbol) [])
 
 -- a name alone

@@ -4,7 +4,7 @@ ghost use Rattle.std.specs.Prelude.{◌≡◌, ◌≤◌, ◌∷◌, [], take, d
 ghost use Rattle.std.specs.List.{list_any, position};
 ghost use Rattle.std.specs.Str.{bytes_eq};
 ghost use Rattle.esc_names.specs.Reserved.{word_table};
-ghost use Rattle.esc_read.specs.Reading.{ReadsBy, ReadsIn, Variables, number_of};
+ghost use Rattle.esc_read.specs.Reading.{ReadsBy, ReadsIn, Variables, name_number};
 ghost use Rattle.esc_read.specs.Tokens.{bare_token, first_token, head_of, text_of, token_of};
 
 use crate::fault::FormStop;
@@ -40,7 +40,8 @@ impl<'e> Model for TermReader<'e> {
 
 /// The number of a name in a table.
 fn number_of(names: &mut Names, text: &[u8]) -> Result<Sym, FormStop>
-    ensures { (scope : Variables) → ReadsBy names.old names.new result (number_of text.now scope) }
+    ensures { (scope : Variables)
+        → ReadsBy names.old names.new result (name_number text.now scope) }
 {
     match names.number(text) {
         Ok(symbol) => Ok(symbol),
@@ -126,7 +127,7 @@ impl<'e> TermReader<'e> {
 
     /// The number of a name.
     pub(crate) fn number_of(&mut self, text: &[u8]) -> Result<Sym, FormStop>
-        ensures { ReadsIn self.old self.new result (number_of text.now) }
+        ensures { ReadsIn self.old self.new result (name_number text.now) }
     {
         number_of(&mut self.names, text)
     }

@@ -2,7 +2,7 @@
 use Rattle.std.proofs.Common.{◌≡◌, ℕ, zero, suc, ◌+◌, ◌<◌, ◌≤◌, Result, Ok, Err, refl, sym, ap, ◌∙◌, subst, arith, below_more, add-one}
 use Rattle.esc_tableau.specs.Table.{Table, IsTable, IsWithin, OwnsRow, SameSystem, sample, pivoted}
 use Rattle.esc_tableau.specs.Rule.{next}
-use Rattle.esc_tableau.specs.Run.{after_next, pivot_run, GoesOn, RatiosFit, RuleFits, NextFits, RuleJams, StepJams, Reached, Advanced, EndsIn, EndsNow, Ends, PeakHolds}
+use Rattle.esc_tableau.specs.Run.{after_next, pivot_run, GoesOn, RatiosFit, RuleFits, NextFits, RuleJams, StepJams, HasPivoted, Advanced, EndsIn, EndsNow, Ends, PeakHolds}
 use Rattle.esc_rows.specs.Steps.{PivotFits}
 use Rattle.std.specs.Result.{IsErr, IsErrAnd, IfOk}
 use Rattle.esc_tableau.specs.Rule.{is_positive, entering, leaving, next_by_move, next_by_row}
@@ -23,7 +23,7 @@ use Rattle.esc_tableau.proofs.Pivoted.{IsTable-pivoted}
 use Rattle.esc_tableau.proofs.PivotLaws.{SameSystem-pivoted, SameSystem_refl, SameSystem_trans}
 use Rattle.esc_tableau.proofs.PeakLaws.{GoodPivot, good_pivot, peak_holds}
 
-pub reached_none : (t : Table) (u : ℕ) → Reached t t u 0
+pub reached_none : (t : Table) (u : ℕ) → HasPivoted t t u 0
 reached_none t u = record {
   is = refl;
   goes_on = λ k below. absurd (omega arith);
@@ -32,8 +32,8 @@ reached_none t u = record {
   pivots = λ k below. absurd (omega arith);
 }
 
-pub reached_more : (old mid new : Table) (u n : ℕ) → Reached old mid u n → Advanced mid new u
-    → Reached old new u (n + 1)
+pub reached_more : (old mid new : Table) (u n : ℕ) → HasPivoted old mid u n → Advanced mid new u
+    → HasPivoted old new u (n + 1)
 reached_more old mid new u n h step = record {
   is = step.is ∙ ap (λ (t : Table). after_next t (next t u)) h.is
       ∙ ap (pivot_run old u) (sym (add-one n));
@@ -78,7 +78,7 @@ run_keeps t u zero ok on = record {
 run_keeps t u (suc n) ok on = keeps_more t (pivot_run t u n) u
     (run_keeps t u n ok (λ k below. on k (omega arith))) (on n (omega arith))
 
-pub reached_keeps : (old new : Table) (u n : ℕ) → IsTable old → Reached old new u n
+pub reached_keeps : (old new : Table) (u n : ℕ) → IsTable old → HasPivoted old new u n
     → Keeps old new u
 reached_keeps old new u n ok h = subst (λ (t : Table). Keeps old t u) (sym h.is)
     (run_keeps old u n ok h.goes_on)
@@ -128,13 +128,15 @@ next_fits t u r c e fits x y d = subst (λ (k : ℕ). PivotFits t.entries t.cons
     column_in (Stops peak) = 0
     column_in (Pivots i j) = j
 
-pub ends_in : (old now new : Table) (u limit n : ℕ) (peak : Peak) → Reached old now u n → n ≤ limit
+pub ends_in : (old now new : Table) (u limit n : ℕ) (peak : Peak) → HasPivoted old now u n
+    → n ≤ limit
     → (new ≡ now) × RuleFits now u × (next now u ≡ Stops peak) → EndsIn old new u limit peak
 ends_in old now new u limit n peak reached few h =
     subst (λ (t : Table). EndsIn old t u limit peak) (sym h.0)
     (record { n = n; allowed = few; reached = reached; ratios = h.1; stops = h.2 })
 
-pub ends_at : (old now new : Table) (u limit n : ℕ) (step : Step) → Reached old now u n → n < limit
+pub ends_at : (old now new : Table) (u limit n : ℕ) (step : Step) → HasPivoted old now u n
+    → n < limit
     → (new ≡ now) × StepJams now u step → Ends old new u limit (Err (Spill step))
 ends_at old now new u limit n Row reached few h = absurd h.1
 ends_at old now new u limit n (Ratio w x) reached few h =
@@ -144,19 +146,19 @@ ends_at old now new u limit n (Pivot w x) reached few h =
     subst (λ (t : Table). Ends old t u limit (Err (Spill (Pivot w x)))) (sym h.0)
     (record { n = n; allowed = few; reached = reached; jams = h.1 })
 
-pub ends_last : (old now : Table) (u limit n : ℕ) (step : Step) → Reached old now u n → n ≤ limit
+pub ends_last : (old now : Table) (u limit n : ℕ) (step : Step) → HasPivoted old now u n → n ≤ limit
     → RuleJams now u step → Ends old now u limit (Err (Spill step))
 ends_last old now u limit n Row reached few h = absurd h
 ends_last old now u limit n (Ratio w x) reached few h = record
     { n = n; allowed = few; reached = reached; jams = h }
 ends_last old now u limit n (Pivot w x) reached few h = absurd h
 
-pub ends_now : (old now : Table) (u limit n : ℕ) (r : Result Peak Jam) → Reached old now u n → n
+pub ends_now : (old now : Table) (u limit n : ℕ) (r : Result Peak Jam) → HasPivoted old now u n → n
     ≡ limit → EndsNow now u r → Ends old now u limit r
 ends_now old now u limit n (Ok peak) reached full h = record
     { n = n; allowed = omega arith; reached = reached; ratios = h.0; stops = h.1 }
 ends_now old now u limit n (Err Spent) reached full h = record
-    { reached = subst (Reached old now u) full reached; ratios = h.0; goes_on = h.1 }
+    { reached = subst (HasPivoted old now u) full reached; ratios = h.0; goes_on = h.1 }
 ends_now old now u limit n (Err (Spill step)) reached full h = ends_last old now u limit n step
     reached (omega arith) h
 

@@ -85,7 +85,7 @@ RuleJams t u (Pivot w x) = ⊥
 -- ---- how a maximising of u ends
 
 -- the run went on for n pivots, whose steps all fit
-pub record Reached (old new : Table) (u n : ℕ) : Type 0 where
+pub record HasPivoted (old new : Table) (u n : ℕ) : Type 0 where
   pub is : new ≡ pivot_run old u n
   pub goes_on : (k : ℕ) → k < n → GoesOn (pivot_run old u k) u
   pub ratios : (k : ℕ) → k < n → RuleFits (pivot_run old u k) u
@@ -95,13 +95,13 @@ pub record Reached (old new : Table) (u n : ℕ) : Type 0 where
 pub record EndsIn (old new : Table) (u limit : ℕ) (peak : Peak) : Type 0 where
   pub n : ℕ
   pub allowed : n ≤ limit
-  pub reached : Reached old new u n
+  pub reached : HasPivoted old new u n
   pub ratios : RuleFits new u
   pub stops : next new u ≡ Stops peak
 
 -- it goes on after as many pivots as are allowed
 pub record EndsSpent (old new : Table) (u limit : ℕ) : Type 0 where
-  pub reached : Reached old new u limit
+  pub reached : HasPivoted old new u limit
   pub ratios : RuleFits new u
   pub goes_on : GoesOn new u
 
@@ -109,14 +109,14 @@ pub record EndsSpent (old new : Table) (u limit : ℕ) : Type 0 where
 pub record EndsAtRatio (old new : Table) (u limit w x : ℕ) : Type 0 where
   pub n : ℕ
   pub allowed : n ≤ limit
-  pub reached : Reached old new u n
+  pub reached : HasPivoted old new u n
   pub jams : RatioJams new u w x
 
 -- an allowed pivot does not fit
 pub record EndsAtPivot (old new : Table) (u limit w x : ℕ) : Type 0 where
   pub n : ℕ
   pub allowed : n < limit
-  pub reached : Reached old new u n
+  pub reached : HasPivoted old new u n
   pub jams : PivotJams new u w x
 
 abbrev pub Ends : Table → Table → ℕ → ℕ → Result Peak Jam → Type 0

@@ -89,8 +89,8 @@ sample t u = row_constant t (row_of t u)
 -- ---- what holds of each tableau
 
 -- the unknowns are the numbers from 0 on, and each owns one row or one column
-abbrev pub IsNumbered : Table → Type 0
-IsNumbered t = (u : ℕ) → count_by (holds u) t.owners + count_by (holds u) t.columns
+abbrev pub StandEachOnce : Table → Type 0
+StandEachOnce t = (u : ℕ) → count_by (holds u) t.owners + count_by (holds u) t.columns
     ≡ (if nat_lt u (size t) then 1 else 0)
 
 -- as many entries and constants as there are rows, and an entry for each column
@@ -98,7 +98,7 @@ pub record IsTable (t : Table) : Type 0 where
   pub rows : length t.entries ≡ length t.owners
   pub constants : length t.constants ≡ length t.owners
   pub width : (r : ℕ) → r < length t.owners → length (row_entries t r) ≡ length t.columns
-  pub numbered : IsNumbered t
+  pub numbered : StandEachOnce t
 
 -- the same unknowns, with the same solutions and the same restrictions
 pub record SameSystem (old new : Table) : Type 0 where

@@ -14,7 +14,12 @@ nodes-preserved c =
 
 pub returns-clause-none : goal.returns-clause-none
 returns-clause-none c i within has =
-    c.nodes.invariant has.0 (omega (arith, has.1, c.nodes-test.false, c.nodes.auto.node-index-end)) (
+    c.nodes.invariant has.0 (omega (
+      arith,
+      has.1,
+      c.nodes-test.false,
+      c.nodes.auto.node-index-end,
+    )) (
       i,
       within,
       get_or_default c.args.group.now i _ 0 within

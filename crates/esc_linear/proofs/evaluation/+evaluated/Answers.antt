@@ -1,7 +1,7 @@
 use Rattle.std.proofs.Common.{[], map, Ok, subst, subst₂, arith, ap, ◌∙◌}
 use Rattle.std.specs.List.{flat_map}
 use Rattle.esc_linear.specs.Forms.{opaque_form, applied, form}
-use Rattle.esc_linear.specs.Steps.{looks_into, combined_steps, steps, Answers}
+use Rattle.esc_linear.specs.Steps.{looks_into, combined_steps, steps, Yields}
 use Rattle.esc_linear.proofs.EvaluationLemmas.{with_form, own_steps, forms-folded, steps-folded, pushed, numeral, variable, not_looked_into, looked_into, all_combined}
 use Rattle.esc_linear.proofs.FoldLemmas.{goes, stops, done}
 use Rattle.esc_linear.proofs.StepLemmas.{handed_on, no_memory}
@@ -24,7 +24,7 @@ evaluated-returns-then-not-looks_into t c =
 
 pub evaluated-returns-in_err-forms-in-App : goal.evaluated-returns-in_err-forms-in-App
 evaluated-returns-in_err-forms-in-App t c =
-    let answered = subst (λ ts. Answers c.forms_of.result (flat_map steps ts) (map form ts))
+    let answered = subst (λ ts. Yields c.forms_of.result (flat_map steps ts) (map form ts))
     c.as_slice.ensures c.forms_of.ensures in
     looked_into c.from_residual.result c.args.term.now c.in-App.head c.in-App.args
     c.looks_into.result c.in-App.is (c.looks_into.ensures
@@ -34,18 +34,18 @@ evaluated-returns-in_err-forms-in-App t c =
 
 pub evaluated-returns-in_ok-forms-in-App : goal.evaluated-returns-in_ok-forms-in-App
 evaluated-returns-in_ok-forms-in-App t c =
-    let answered = subst (λ ts. Answers (Ok c.in_ok-forms-in-App.forms) (flat_map steps ts)
+    let answered = subst (λ ts. Yields (Ok c.in_ok-forms-in-App.forms) (flat_map steps ts)
     (map form ts)) c.as_slice.ensures c.in_ok-forms-in-App.ensures in
     all_combined c.combined.result c.args.term.now c.in-App.head c.in-App.args _ c.looks_into.result
     c.in-App.is (c.looks_into.ensures ∙ ap (looks_into c.in-App.head) c.len.ensures)
     c.if-not-looks_into.false
-    answered (subst (λ fs. Answers c.combined.result (combined_steps c.in-App.head fs)
+    answered (subst (λ fs. Yields c.combined.result (combined_steps c.in-App.head fs)
     (applied c.in-App.head (opaque_form c.args.term.now) fs)) c.as_slice-in-App.ensures
     c.combined.ensures)
 
 pub forms_of-returns-in_err-evaluated : goal.forms_of-returns-in_err-evaluated
 forms_of-returns-in_err-evaluated t c =
-    subst₂ (λ made value. Answers c.from_residual.result made value)
+    subst₂ (λ made value. Yields c.from_residual.result made value)
     (steps-folded [] c.args.terms.now) (forms-folded c.args.terms.now)
     (stops with_form own_steps [] c.args.terms.now c.terms.term-index c.terms.forms
     c.term-item.result _ c.evaluated.result _ _ (omega arith) c.term-item.is
@@ -63,7 +63,7 @@ forms_of-terms-preserved t c =
 
 pub forms_of-returns : goal.forms_of-returns
 forms_of-returns t c =
-    subst₂ (λ made value. Answers (Ok c.terms.forms) made value) (steps-folded [] c.args.terms.now)
+    subst₂ (λ made value. Yields (Ok c.terms.forms) made value) (steps-folded [] c.args.terms.now)
     (forms-folded c.args.terms.now)
     (done with_form own_steps [] c.args.terms.now c.terms.term-index c.terms.forms (omega arith)
     c.terms.invariant)

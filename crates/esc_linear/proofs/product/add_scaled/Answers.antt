@@ -2,7 +2,7 @@ use Rattle.std.proofs.Common.{[], ◌++◌, ◌∷◌, ap, sym, ◌∙◌}
 use Rattle.std.proofs.lemmas.List.Elements.{All-head}
 use Rattle.esc_frac.specs.Rational.{is_zero}
 use Rattle.esc_linear.specs.Forms.{part}
-use Rattle.esc_linear.specs.Steps.{multiplies, StepFits, Answers}
+use Rattle.esc_linear.specs.Steps.{multiplies, StepFits, Yields}
 use Rattle.esc_linear.proofs.ProductLemmas.{none_scaled, one_scaled}
 use Rattle.esc_linear.proofs.StepLemmas.{AllFit-one, no_memory, spilled}
 use Rattle.esc_linear.proofs.product.add_scaled.Goals as goal
@@ -14,7 +14,7 @@ returns-in_err-product c =
     (All-head StepFits (multiplies c.args.part.now.factor c.args.factor) [] all))
 
 pub returns-then-is_zero : goal.returns-then-is_zero
-unfolding Answers StepFits
+unfolding Yields StepFits
 returns-then-is_zero c =
     let none = ap is_zero (sym c.in_ok-product.ensures.1) ∙ sym c.is_zero.ensures
     ∙ c.if-is_zero.true in (
@@ -29,7 +29,7 @@ pub returns-in_err-push : goal.returns-in_err-push
 returns-in_err-push c = no_memory _ _ _ c.from_residual-in_err-push.ensures.1
 
 pub returns : goal.returns
-unfolding Answers StepFits
+unfolding Yields StepFits
 returns c =
     let some = ap is_zero (sym c.in_ok-product.ensures.1) ∙ sym c.is_zero.ensures
     ∙ c.if-is_zero.false in (

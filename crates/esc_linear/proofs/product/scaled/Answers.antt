@@ -3,13 +3,13 @@ use Rattle.std.proofs.lemmas.List.Elements.{All-head, All-append}
 use Rattle.esc_frac.specs.Rational.{ℚ}
 use Rattle.esc_linear.specs.declared.form.Part.{Part}
 use Rattle.esc_linear.specs.Forms.{scaled_parts}
-use Rattle.esc_linear.specs.Steps.{multiplies, StepFits, Answers, scaled_part_steps}
+use Rattle.esc_linear.specs.Steps.{multiplies, StepFits, Yields, scaled_part_steps}
 use Rattle.esc_linear.proofs.StepLemmas.{handed_on, spilled, AllFit-one, AllFit-back}
 use Rattle.esc_linear.proofs.product.scaled.Goals as goal
 
 pub returns-in_err-parts : goal.returns-in_err-parts
 returns-in_err-parts c =
-    let answered = subst (λ (qs : List Part). Answers c.scaled_parts.result
+    let answered = subst (λ (qs : List Part). Yields c.scaled_parts.result
     (scaled_part_steps qs c.args.factor) (scaled_parts qs c.args.factor)) c.as_slice.ensures
     c.scaled_parts.ensures in
     handed_on _ c.scaled_parts.result _ (scaled_part_steps c.args.form.now.parts c.args.factor) _ _
@@ -24,12 +24,12 @@ returns-in_err-constant c =
     (AllFit-back (scaled_part_steps c.args.form.now.parts c.args.factor) _ all)))
 
 pub returns : goal.returns
-unfolding Answers StepFits
+unfolding Yields StepFits
 returns c =
-    let answered = subst (λ (qs : List Part). Answers c.scaled_parts.result
+    let answered = subst (λ (qs : List Part). Yields c.scaled_parts.result
     (scaled_part_steps qs c.args.factor) (scaled_parts qs c.args.factor)) c.as_slice.ensures
     c.scaled_parts.ensures in
-    let both = subst (λ r. Answers r (scaled_part_steps c.args.form.now.parts c.args.factor)
+    let both = subst (λ r. Yields r (scaled_part_steps c.args.form.now.parts c.args.factor)
     (scaled_parts c.args.form.now.parts c.args.factor)) c.in_ok-parts.was answered in (
       All-append StepFits (scaled_part_steps c.args.form.now.parts c.args.factor) _ both.0
           (AllFit-one (multiplies c.args.form.now.constant c.args.factor)

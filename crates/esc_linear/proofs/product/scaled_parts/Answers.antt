@@ -1,12 +1,12 @@
 use Rattle.std.proofs.Common.{[], Ok, subst₂, arith}
-use Rattle.esc_linear.specs.Steps.{Answers}
+use Rattle.esc_linear.specs.Steps.{Yields}
 use Rattle.esc_linear.proofs.FoldLemmas.{goes, stops, done}
 use Rattle.esc_linear.proofs.ProductLemmas.{with_scaled, scaling, scaled-folded, scaling-folded}
 use Rattle.esc_linear.proofs.product.scaled_parts.Goals as goal
 
 pub returns-in_err-products : goal.returns-in_err-products
 returns-in_err-products c =
-    subst₂ (λ made value. Answers c.from_residual.result made value)
+    subst₂ (λ made value. Yields c.from_residual.result made value)
     (scaling-folded c.args.factor [] c.args.parts.now)
     (scaled-folded c.args.factor c.args.parts.now)
     (stops (with_scaled c.args.factor) (scaling c.args.factor) [] c.args.parts.now
@@ -22,7 +22,7 @@ parts-preserved c =
 
 pub returns : goal.returns
 returns c =
-    subst₂ (λ made value. Answers (Ok c.parts.products) made value)
+    subst₂ (λ made value. Yields (Ok c.parts.products) made value)
     (scaling-folded c.args.factor [] c.args.parts.now)
     (scaled-folded c.args.factor c.args.parts.now)
     (done (with_scaled c.args.factor) (scaling c.args.factor) [] c.args.parts.now c.parts.part-index

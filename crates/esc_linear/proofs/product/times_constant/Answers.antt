@@ -1,6 +1,6 @@
 use Rattle.std.proofs.Common.{[], Ok}
 use Rattle.std.proofs.lemmas.List.Elements.{All-head}
-use Rattle.esc_linear.specs.Steps.{multiplies, StepFits, Answers}
+use Rattle.esc_linear.specs.Steps.{multiplies, StepFits, Yields}
 use Rattle.esc_linear.proofs.ProductLemmas.{constant_by, no_constant, a_constant}
 use Rattle.esc_linear.proofs.StepLemmas.{AllFit-one, spilled}
 use Rattle.esc_linear.proofs.product.times_constant.Goals as goal
@@ -18,7 +18,7 @@ returns-in_err-mul c =
     (All-head StepFits (multiplies c.args.factor c.args.form.now.constant) [] all)))
 
 pub returns : goal.returns
-unfolding StepFits Answers
+unfolding StepFits Yields
 returns c =
     a_constant (Ok c.in_ok-mul.field-0) c.args.factor c.args.form.now _
     (constant_by _ _ c.is_constant.ensures) c.if-not-is_constant.false (

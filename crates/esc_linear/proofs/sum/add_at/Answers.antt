@@ -2,7 +2,7 @@ use Rattle.std.proofs.Common.{List, get_or, set, sym, ap, ◌∙◌}
 use Rattle.esc_frac.specs.Rational.{is_zero}
 use Rattle.esc_linear.specs.declared.form.Part.{Part}
 use Rattle.esc_linear.specs.Forms.{part}
-use Rattle.esc_linear.specs.Steps.{Answers}
+use Rattle.esc_linear.specs.Steps.{Yields}
 use Rattle.esc_linear.proofs.PlaceLemmas.{fits_at, fits_there, emptied, changed}
 use Rattle.esc_linear.proofs.StepLemmas.{spilled}
 use Rattle.esc_linear.proofs.sum.add_at.Goals as goal
@@ -16,7 +16,7 @@ returns-in_err-sum c =
     c.index-as_slice-place.result _ c.requires is all))
 
 pub returns-then-is_zero : goal.returns-then-is_zero
-unfolding Answers
+unfolding Yields
 returns-then-is_zero c =
     let is = ap (λ (ps : List Part). (get_or ps c.args.place c.index-as_slice-place.result).factor)
     c.as_slice.ensures in
@@ -29,7 +29,7 @@ returns-then-is_zero c =
     )
 
 pub returns : goal.returns
-unfolding Answers
+unfolding Yields
 returns c =
     let is = ap (λ (ps : List Part). (get_or ps c.args.place c.index-as_slice-place.result).factor)
     c.as_slice.ensures in

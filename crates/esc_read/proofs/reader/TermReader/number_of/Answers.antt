@@ -1,5 +1,5 @@
 use Rattle.std.proofs.Common.{subst}
-use Rattle.esc_read.specs.Reading.{ReadsIn, number_of}
+use Rattle.esc_read.specs.Reading.{ReadsIn, name_number}
 use Rattle.esc_read.proofs.Readings.{ReadsIn-names}
 use Rattle.esc_read.proofs.reader.TermReader.number_of.Goals as goal
 
@@ -8,5 +8,5 @@ returns c =
     subst
     (λ t. ReadsIn t
     (record { names = c.number_of.new.names; scope = c.self.inside.scope })
-    c.number_of.result (number_of c.args.text.now))
+    c.number_of.result (name_number c.args.text.now))
     c.self.view_is (ReadsIn-names c.self.inside.scope (c.number_of.ensures c.self.inside.scope))
