@@ -11,7 +11,7 @@ use Rattle.esc_report.specs.declared.report.Refusal.TheVariants.{Form, Unsupport
 use Rattle.esc_report.specs.declared.report.Report.{Report}
 use Rattle.esc_report.specs.declared.report.Report.TheVariants as report
 use Rattle.esc_answers.specs.Answers.{AnswersGoal, AnswersKind, AnswersWhere}
-use Rattle.esc_answers.specs.State.{State, asked}
+use Rattle.esc_answers.specs.State.{State, with_goal}
 use Rattle.esc_top.specs.Answers.{AnswersExpression, ReadsAs}
 use Rattle.esc_top.specs.Progress.{limits_of_run}
 
@@ -45,7 +45,7 @@ expression_answered names s t e c report.Done reads h = inl (c, reads, h)
 -- ---- goals
 
 pub goal_answered : (s t : State) (place : ℕ) (f : Formula) (r : Report) → is_supported f ≡ true
-    → AnswersGoal limits_of_run f (s.goals + 1) place r → t ≡ asked s
+    → AnswersGoal limits_of_run f (s.goals + 1) place r → t ≡ with_goal s
     → AnswersKind limits_of_run s place (kind.Goal f) r t
 goal_answered s t place f r is answers counted = subst
     (λ (b : Bool). AnswersWhere b limits_of_run s place f r t) (sym is) (answers, counted)

@@ -6,7 +6,7 @@ use Rattle.esc_sexp.specs.declared.sexp.SexpFault.{SexpFault}
 use Rattle.esc_sexp.specs.Grammar as grammar
 use Rattle.esc_sexp.specs.Grammar.{End, Finds, FirstFault, IsBlankText, Reads, broken, whole}
 use Rattle.esc_sexp.specs.Unread.{Unread, Forgets, Gives, HoldsNothing, ReadsAlike}
-use Rattle.esc_sexp.proofs.Exact.{found_stays}
+use Rattle.esc_sexp.specs.Laws.{FoundStays}
 use Rattle.esc_top.specs.Reading.{BeginsAs, HasFirst, HasWhole, IsBrokenBehind}
 use Rattle.esc_top.specs.Ran.{MayFollow}
 use Rattle.esc_top.specs.Underway.{KeepsEnd, GoesOnBehind, IsHungry}
@@ -59,17 +59,17 @@ alike_along finished p q r xs ys zs h k = record {
   blank = (λ blank. k.blank.0 (h.blank.0 blank), λ blank. h.blank.1 (k.blank.1 blank));
 }
 
-found_on : (told finished : Bool) (p : ℕ) (bs more : List ℕ) (e : Sexp) (after : ℕ) (rest : List ℕ)
-    → KeepsEnd told finished more
+found_on : FoundStays → (told finished : Bool) (p : ℕ) (bs more : List ℕ) (e : Sexp) (after : ℕ)
+    (rest : List ℕ) → KeepsEnd told finished more
     → Finds told p bs e after rest → Finds finished p (bs ++ more) e after (rest ++ more)
-found_on true finished p bs more e after rest agrees found =
+found_on found_stays true finished p bs more e after rest agrees found =
     let at_end : Finds true p (bs ++ []) e after (rest ++ []) =
     subst (λ (x : List ℕ). Finds true p x e after (rest ++ [])) (sym (append-nil bs))
     (subst (λ (x : List ℕ). Finds true p bs e after x) (sym (append-nil rest)) found) in
     subst (λ (x : List ℕ). Finds finished p (bs ++ x) e after (rest ++ x)) (sym (agrees refl).1)
     (subst (λ (b : Bool). Finds b p (bs ++ []) e after (rest ++ [])) (sym (agrees refl).0) at_end)
-found_on false finished p bs more e after rest agrees found = found_stays finished p bs more e after
-    rest found
+found_on found_stays false finished p bs more e after rest agrees found =
+    found_stays finished p bs more e after rest found
 
 -- ---- going on behind the expressions
 
@@ -80,16 +80,16 @@ behind_start unread is finished more agrees =
     × ReadsAlike finished after stand u.place (u.bytes ++ more)) (sym is)
     (0, more, (refl, refl), alike_self finished 0 more)
 
-pub behind_found : (taken : List ℕ) (es : List Sexp) (e : Sexp) (old new : Unread) → Gives old e new
-    → GoesOnBehind taken es old → GoesOnBehind taken (es ++ e ∷ []) new
-behind_found taken es e old new gives behind finished more agrees =
+pub behind_found : FoundStays → (taken : List ℕ) (es : List Sexp) (e : Sexp) (old new : Unread)
+    → Gives old e new → GoesOnBehind taken es old → GoesOnBehind taken (es ++ e ∷ []) new
+behind_found found_stays taken es e old new gives behind finished more agrees =
     let same : new.finished ≡ old.finished = ap (λ (u : Unread). u.finished) gives.rest in
     let agreed : KeepsEnd old.finished finished more = subst
     (λ (b : Bool). KeepsEnd b finished more) same agrees in
     let h = behind finished more agreed in
     let found = (h.3.found e new.place (new.bytes ++ more)).1
-    (found_on old.finished finished old.place old.bytes more e new.place new.bytes agreed
-    gives.finds) in (
+    (found_on found_stays old.finished finished old.place old.bytes more e new.place new.bytes
+    agreed gives.finds) in (
       new.place,
       new.bytes ++ more,
       BeginsAs-push finished 0 (taken ++ more) es h.0 h.1 e new.place

@@ -9,6 +9,7 @@ use Rattle.esc_names.specs.Numbering.{first_names}
 use Rattle.esc_read.specs.Reading.{Extends}
 use Rattle.esc_sexp.specs.declared.sexp.Sexp.{Sexp}
 use Rattle.esc_sexp.specs.declared.sexp.SexpFault.{SexpFault}
+use Rattle.esc_sexp.specs.Laws.{FoundStays}
 use Rattle.esc_sexp.specs.Unread.{Unread, Forgets, Gives, HasFault, fault_by}
 use Rattle.esc_answers.specs.State.{State}
 use Rattle.esc_top.specs.Answers.{AnswersExpression}
@@ -62,19 +63,19 @@ answered old desk desk' e r h answers =
     (subst (λ (s : State). AnswersExpression limits_of_run desk'.names s e answers.report
     (state_of desk')) (sym h.state) answers.answers)
 
-pub underway_told : {E : Type 0} {left rest written now after : Option (List ℕ)} (old new : Unread)
-    (desk desk' : Desk) (e : Sexp)
+pub underway_told : {E : Type 0} {left rest written now after : Option (List ℕ)} → FoundStays
+    → (old new : Unread) (desk desk' : Desk) (e : Sexp)
     → Underway left rest written now old desk → Gives old e new
     → AnswersOne {E = E} desk desk' e now after (Ok tt)
     → Underway left rest written after new desk'
 unfolding answered
-underway_told {E} {left} {rest} {written} {now} {after} old new desk desk' e h gives answers =
+underway_told {E} {left} {rest} {written} {now} {after} stays old new desk desk' e h gives answers =
     let told : Told = record { names = desk'.names; report = answers.report } in
     record {
       progress = answered {E = E} old desk desk' e (Ok tt) h answers;
       ended = h.ended ∙ sym (ap (λ (u : Unread). u.finished) gives.rest);
       untold = ap (λ (u : Unread). u.fault) gives.rest ∙ h.untold;
-      behind = behind_found h.progress.taken h.progress.expressions e old new gives h.behind;
+      behind = behind_found stays h.progress.taken h.progress.expressions e old new gives h.behind;
       reached = gives.end ∙ h.reached;
       within = h.within;
       names = refl;
@@ -85,12 +86,13 @@ underway_told {E} {left} {rest} {written} {now} {after} old new desk desk' e h g
           (Grows-then h.grown answers.put.whole);
     }
 
-pub broken_told : {E : Type 0} {left rest written now after : Option (List ℕ)} (old new : Unread)
-    (desk desk' : Desk) (e : Sexp) (failed : E)
+pub broken_told : {E : Type 0} {left rest written now after : Option (List ℕ)} → FoundStays
+    → (old new : Unread) (desk desk' : Desk) (e : Sexp) (failed : E)
     → Underway left rest written now old desk → Gives old e new
     → AnswersOne {E = E} desk desk' e now after (Err failed) → Broken left rest written after
 unfolding answered
-broken_told {E} {left} {rest} {written} {now} {after} old new desk desk' e failed h gives answers =
+broken_told {E} {left} {rest} {written} {now} {after} stays old new desk desk' e failed h gives
+    answers =
     let told : Told = record { names = desk'.names; report = answers.report } in
     let finished : h.progress.ended ≡ new.finished = h.ended
     ∙ sym (ap (λ (u : Unread). u.finished) gives.rest) in
@@ -100,8 +102,8 @@ broken_told {E} {left} {rest} {written} {now} {after} old new desk desk' e faile
       within = h.within;
       read = subst (λ (b : Bool). IsReadTo WriteFault b h.progress.taken es (h.progress.told ++ told
           ∷ [])) (sym finished)
-          (has_first h.progress.taken es new (behind_found h.progress.taken h.progress.expressions e
-          old new gives h.behind));
+          (has_first h.progress.taken es new (behind_found stays h.progress.taken
+          h.progress.expressions e old new gives h.behind));
       front = subst (λ (l : List ℕ). GrowsByFront written after l)
           (sym (texts-push h.progress.told told)) (GrowsByFront-then h.grown answers.put.front);
     }

@@ -7,7 +7,7 @@ ghost use Rattle.esc_top.specs.Underway.{Came, EndsByCount, Feeds, IsToldByCount
 use crate::desk::Desk;
 use crate::status::Status;
 use esc_io::{Failed, Sink, Source};
-use esc_sexp::{ReadStop, Reader};
+use esc_sexp::{ReadStop, Reader, reading_laws};
 use std::alloc::Global;
 
 /// The most bytes of one read.
@@ -50,6 +50,7 @@ fn answer_whole<K: Sink>(reader: &mut Reader, desk: &mut Desk, sink: &mut K) -> 
     ensures reads { (count : ℕ) → StopsByCount result count count }
     ensures cause { HasCause (K.faults sink.old) (K.faults sink.new) result }
 {
+    reading_laws();
     'expressions: loop {
         match reader.next() {
             Ok(Some(sexp)) => desk.tell(&sexp, sink)?,

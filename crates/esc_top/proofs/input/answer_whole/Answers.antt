@@ -7,7 +7,8 @@ pub returns-in_err-tell-in-Ok-Some-clause-told : goal.returns-in_err-tell-in-Ok-
 returns-in_err-tell-in-Ok-Some-clause-told g c = λ left rest written h.
     let gives = rw c.in-Ok-Some.field-0-is at c.in-Ok-Some.ensures.some in
     stops_broken c.next.new.self c.tell.new.self c.from_residual.result c.from_residual.ensures.0
-    (broken_told c.expressions.reader c.next.new.self c.expressions.desk c.tell.new.self
+    (broken_told c.reading_laws.ensures.found_stays c.expressions.reader c.next.new.self
+    c.expressions.desk c.tell.new.self
     c.in-Ok-Some.sexp c.in_err-tell-in-Ok-Some.field-0.0
     (c.expressions.invariant.told left rest written h) gives
     c.in_err-tell-in-Ok-Some.ensures.answers)
@@ -60,11 +61,18 @@ expressions-preserved-in_ok-tell-in-Ok-Some g c =
     let same = ap (λ u. u.finished) gives.rest in
     record {
       told = λ left rest written h.
-          underway_told c.expressions.reader c.next.new.self c.expressions.desk c.tell.new.self
+          underway_told c.reading_laws.ensures.found_stays c.expressions.reader c.next.new.self
+          c.expressions.desk c.tell.new.self
           c.in-Ok-Some.sexp
           (c.expressions.invariant.told left rest written h) gives
           c.in_ok-tell-in-Ok-Some.ensures.answers;
-      few = omega (arith, gives.shorter, gives.end, c.tell.ensures.answers.few, c.expressions.invariant.few);
+      few = omega (
+        arith,
+        gives.shorter,
+        gives.end,
+        c.tell.ensures.answers.few,
+        c.expressions.invariant.few,
+      );
       end = gives.end ∙ c.expressions.invariant.end;
       finished = same ∙ c.expressions.invariant.finished;
       count = c.in_ok-tell-in-Ok-Some.ensures.cause.kept ∙ c.expressions.invariant.count;
@@ -77,11 +85,18 @@ expressions-preserved-in_ok-tell-in-Ok-Some-2 g c =
     let same = ap (λ u. u.finished) gives.rest in
     record {
       told = λ left rest written h.
-          underway_told c.expressions.reader c.next.new.self c.expressions.desk c.tell.new.self
+          underway_told c.reading_laws.ensures.found_stays c.expressions.reader c.next.new.self
+          c.expressions.desk c.tell.new.self
           c.in-Ok-Some.sexp
           (c.expressions.invariant.told left rest written h) gives
           c.in_ok-tell-in-Ok-Some.ensures.answers;
-      few = omega (arith, gives.shorter, gives.end, c.tell.ensures.answers.few, c.expressions.invariant.few);
+      few = omega (
+        arith,
+        gives.shorter,
+        gives.end,
+        c.tell.ensures.answers.few,
+        c.expressions.invariant.few,
+      );
       end = gives.end ∙ c.expressions.invariant.end;
       finished = same ∙ c.expressions.invariant.finished;
       count = c.in_ok-tell-in-Ok-Some.ensures.cause.kept ∙ c.expressions.invariant.count;
@@ -93,11 +108,18 @@ expressions-preserved g c =
     let same = ap (λ u. u.finished) gives.rest in
     record {
       told = λ left rest written h.
-          underway_told c.expressions.reader c.next.new.self c.expressions.desk c.tell.new.self
+          underway_told c.reading_laws.ensures.found_stays c.expressions.reader c.next.new.self
+          c.expressions.desk c.tell.new.self
           c.in-Ok-Some.sexp
           (c.expressions.invariant.told left rest written h) gives
           c.in_ok-tell-in-Ok-Some.ensures.answers;
-      few = omega (arith, gives.shorter, gives.end, c.tell.ensures.answers.few, c.expressions.invariant.few);
+      few = omega (
+        arith,
+        gives.shorter,
+        gives.end,
+        c.tell.ensures.answers.few,
+        c.expressions.invariant.few,
+      );
       end = gives.end ∙ c.expressions.invariant.end;
       finished = same ∙ c.expressions.invariant.finished;
       count = c.in_ok-tell-in-Ok-Some.ensures.cause.kept ∙ c.expressions.invariant.count;
