@@ -91,7 +91,8 @@ uses_from-more first (t ∷ nodes) s =
     ++ map (λ a. (a, n)) s.args)
     (let e : (first + 1) + length nodes ≡ first + suc (length nodes) = omega arith in e))
 
-pub uses_of-more : (nodes : List Shape) (s : Shape) → uses_of (nodes ++ (s ∷ [])) ≡ uses_of nodes ++ map (λ a. (a, length nodes)) s.args
+pub uses_of-more : (nodes : List Shape) (s : Shape) → uses_of (nodes ++ (s ∷ []))
+    ≡ uses_of nodes ++ map (λ a. (a, length nodes)) s.args
 unfolding uses_of
 uses_of-more nodes s = uses_from-more 0 nodes s ∙ ap (λ n. uses_of nodes
     ++ map (λ a. (a, n)) s.args) (let e : 0 + length nodes ≡ length nodes = omega arith in e)
@@ -101,7 +102,8 @@ unfolding uses_of
 uses_of-none = refl
 
 -- the node of an entry is one
-pub use_low : (p : Parts) → IsSound p → (place : ℕ) → place < length p.uses → (entry_at p.uses place).1 < length p.nodes
+pub use_low : (p : Parts) → IsSound p → (place : ℕ) → place < length p.uses
+    → (entry_at p.uses place).1 < length p.nodes
 unfolding uses_of
 use_low p is place l =
     let u = uses_are 0 p.nodes (entry_at p.uses place)
@@ -110,7 +112,8 @@ use_low p is place l =
     omega (arith, u.there, u.number)
 
 -- a node over an argument has an entry
-pub use_there : (p : Parts) → IsSound p → (n a : ℕ) → HasArgument p.nodes n a → IsAmong p.uses a (length p.uses) n
+pub use_there : (p : Parts) → IsSound p → (n a : ℕ) → HasArgument p.nodes n a
+    → IsAmong p.uses a (length p.uses) n
 unfolding uses_of
 use_there p is n a has =
     let c = subst (λ us. Contains us (a, n)) (sym is.used)

@@ -1,5 +1,5 @@
 -- What is settled, where classes are merged and where nodes are entered.
-use Rattle.std.proofs.Common.{◌≡◌, ◌≢◌, ℕ, zero, suc, ◌+◌, ◌<◌, List, [], ◌∷◌, ◌++◌, ◌⊎◌, inl, inr, length, map, get_or, All, refl, ap, sym, subst, ◌∙◌, arith}
+use Rattle.std.proofs.Common.{◌≡◌, ◌≢◌, ℕ, zero, suc, ◌+◌, ◌<◌, ◌%◌, ◌^◌, List, [], ◌∷◌, ◌++◌, ◌⊎◌, inl, inr, length, map, get_or, All, refl, ap, sym, subst, ◌∙◌, arith}
 use Rattle.std.specs.List.{Any, fold}
 use Rattle.std.proofs.lemmas.Bool.{cases_eq, cases_lt}
 use Rattle.std.proofs.lemmas.List.{get_or_append_left, get_or_at, length_push, same_lists, get_or-map, length-map}
@@ -30,14 +30,14 @@ pub key_of-alike : (number : ℕ → ℕ) (s t : Shape) → AreAlike number s t 
     ≡ key_of number t
 unfolding key_of
 key_of-alike number s t alike =
-    ap (λ k. fold mixed k (map number s.args)) (ap top_key alike.top)
-    ∙ ap (fold mixed (top_key t.top)) (map-same number number s.args t.args alike.args.lengths
-    alike.args.places)
+    ap (λ k. fold mixed k (map number s.args) % 2 ^ 32) (ap top_key alike.top)
+    ∙ ap (λ ks. fold mixed (top_key t.top) ks % 2 ^ 32)
+    (map-same number number s.args t.args alike.args.lengths alike.args.places)
 
 pub key_of-still : (f g : ℕ → ℕ) (s : Shape) → All (λ a. f a ≡ g a) s.args → key_of f s ≡ key_of g s
 unfolding key_of
 key_of-still f g s all =
-    ap (fold mixed (top_key s.top)) (map-same f g s.args s.args refl
+    ap (λ ks. fold mixed (top_key s.top) ks % 2 ^ 32) (map-same f g s.args s.args refl
     (λ k l. All-get_or (λ a. f a ≡ g a) s.args k 0 l all))
 
 pub alike_still : (f g : ℕ → ℕ) (s t : Shape) → All (λ a. f a ≡ g a) s.args

@@ -230,8 +230,8 @@ within_table nodes ms table steps is = All-weaker (IsWithin nodes ms table) (λ 
     ≤ length table) (λ s w. w.table_then) steps is.within
 
 -- the nodes without the last one have fewer uses by its arguments
-pub uses_fewer : (nodes front : List Shape) (s : Shape) (n : ℕ) → nodes ≡ front ++ (s ∷ []) → n + length s.args ≡ length (uses_of nodes) →
-    take n (uses_of nodes) ≡ uses_of front
+pub uses_fewer : (nodes front : List Shape) (s : Shape) (n : ℕ) → nodes ≡ front ++ (s ∷ [])
+    → n + length s.args ≡ length (uses_of nodes) → take n (uses_of nodes) ≡ uses_of front
 uses_fewer nodes front s n is count =
     let more : uses_of nodes ≡ uses_of front ++ map (λ a. (a, length front)) s.args = ap uses_of is
     ∙ uses_of-more front s in
@@ -402,7 +402,8 @@ module _ (nodes : List Shape) (uses : List (ℕ × ℕ)) (n : ℕ) (used : uses 
         length-map {B = ℕ × ℕ} (shape_at nodes n).args (λ a. (a, length (take n nodes))),
       )
 
-  pub uses_back : (k : ℕ) → k ≡ length uses - length (shape_at nodes n).args → take k uses ≡ uses_of (take n nodes)
+  pub uses_back : (k : ℕ) → k ≡ length uses - length (shape_at nodes n).args
+      → take k uses ≡ uses_of (take n nodes)
   uses_back k k_is =
       ap (take k) used ∙ uses_fewer nodes (take n nodes) (shape_at nodes n) k last_node
       (omega (arith, k_is, uses_fit, ap length used))

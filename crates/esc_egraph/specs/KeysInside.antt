@@ -26,6 +26,6 @@ abbrev pub top_key : Top → ℕ
 top_key (Num n) = mixed 0 (cast_unsigned w64 n)
 top_key (App head) = head_key head
 
--- that of a top over the classes of the arguments
+-- that of a top over the classes of the arguments, in 32 bits
 unfoldable pub key_of : (ℕ → ℕ) → Shape → ℕ
-key_of number s = fold mixed (top_key s.top) (map number s.args)
+key_of number s = fold mixed (top_key s.top) (map number s.args) % 2 ^ 32

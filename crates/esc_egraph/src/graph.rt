@@ -80,8 +80,9 @@ impl EGraph {
     }
 
     /// Makes two nodes equal, with all that congruence brings: Closed where a forbidden pair or
-    /// two different numerals then stand in one class. Where memory is wanting, a part of the
-    /// classes may have been joined.
+    /// two different numerals then stand in one class. Where they are equal already nothing is
+    /// changed and nothing noted. Where memory is wanting, a part of the classes may have been
+    /// joined.
     pub fn equate<R: CarriesNodes>(
         &mut self,
         a: Node,
@@ -93,6 +94,8 @@ impl EGraph {
         requires met { IsMet self.old }
         ensures others { self.new ≡ record self.old { merges = self.new.merges } }
         ensures more { Adds self.old.merges self.new.merges }
+        ensures known { SameClass (number_of self.old) a b → (self.new ≡ self.old)
+            × (trail.new ≡ trail.old) }
         ensures least { OnOk result (IsLeast self.old.nodes (EqualWith (number_of self.old) a b)
             (number_of self.new)) }
         ensures closed { IfOk result (λ s. (s ≡ State.Closed) ↔ IsBroken self.new) }

@@ -40,7 +40,7 @@ fn key_head(head: Head) -> usize
     }
 }
 
-/// The key of a top over the classes of some arguments.
+/// The key of a top over the classes of some arguments, in 32 bits.
 pub(crate) fn signature_key(classes: &Partition, top: Top, args: &[Node]) -> usize
     requires { All (λ a. a < classes.now.count) args.now }
     ensures { result ≡ key_of (class_number classes.now.merges)
@@ -50,5 +50,5 @@ pub(crate) fn signature_key(classes: &Partition, top: Top, args: &[Node]) -> usi
     'words: for arg in args {
         key = mix(key, classes.root(*arg).index());
     }
-    key
+    key % 0x1_0000_0000
 }

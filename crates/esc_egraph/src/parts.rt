@@ -21,7 +21,7 @@ use crate::step::Step;
 use esc_index::Index;
 use esc_nodes::Nodes;
 use esc_trail::Trail;
-use esc_union::{Node, Partition};
+use esc_union::{Node, Partition, narrow};
 use std::alloc::{AllocError, Global};
 
 /// The nodes in the order of making, their classes, and what is looked up in them.
@@ -62,21 +62,21 @@ impl Parts {
     }
 
     /// What there is now.
-    fn step(&self) -> Step
-        ensures { result ≡ record {
+    fn step(&self) -> Result<Step, AllocError>
+        ensures { IfOk result (λ s. s ≡ record {
           whole = self.now.whole;
           nodes = length self.now.nodes;
           merges
               = length self.now.classes.merges;
           table = length self.now.table;
-        } }
+        }) }
     {
-        Step {
+        Ok(Step {
             whole: self.whole,
-            nodes: self.nodes.count(),
-            merges: self.classes.merges().len(),
-            table: self.table.len(),
-        }
+            nodes: narrow(self.nodes.count())?,
+            merges: narrow(self.classes.merges().len())?,
+            table: narrow(self.table.len())?,
+        })
     }
 
     /// Makes the class of one node a part of that of another, and notes it.
@@ -123,7 +123,7 @@ impl Parts {
         ensures table { self.new.table ≡ self.old.table }
     {
         self.steps.reserve(1)?;
-        let step = self.step();
+        let step = self.step()?;
         let small = self.classes.root(from);
         let large = self.classes.root(into);
         let moved = self.classes.members(from).len();

@@ -2,18 +2,18 @@ ghost use Rattle.std.specs.Prelude.{◌≡◌, ℕ, ◌+◌, ◌-◌, ◌<◌, �
 ghost use Rattle.esc_index.specs.Places.{entry_at, HasNone, IsLastBefore};
 
 use crate::threads::{last_place, widen};
-use esc_union::Node;
+use esc_union::{Node, narrow};
 use std::alloc::{AllocError, Global};
 use std::marker::Model;
 
 /// Keys with their nodes in the order of adding, for each bucket of keys one more than its last
-/// place, or 0, and for each place the same of those before it.
+/// place, or 0, and for each place the same of those before it. All are held in 32 bits.
 #[derive(Drop)]
 pub struct Index {
     alloc: Global,
-    entries: Vec<(usize, Node)>,
-    heads: Vec<usize>,
-    next: Vec<usize>,
+    entries: Vec<(u32, u32)>,
+    heads: Vec<u32>,
+    next: Vec<u32>,
 }
 
 impl Model for Index {
@@ -53,7 +53,7 @@ impl Index {
         requires { place < length self.now }
         ensures { result ≡ (entry_at self.now place).1 }
     {
-        self.entries[place].1
+        Node::new(self.entries[place].1 as usize)
     }
 
     /// The last place before `end` that has the key, where `end` is the end or has the key.
@@ -72,11 +72,15 @@ impl Index {
         )
     }
 
-    /// Adds a key with its node.
+    /// Adds a key with its node. Where one of them does not fit into 32 bits it answers want of
+    /// memory.
     pub fn push(&mut self, key: usize, node: Node) -> Result<(), AllocError>
         ensures ok { OnOk result (self.new ≡ self.old ++ (key, node) ∷ []) }
         ensures err { OnErr result (self.new ≡ self.old) }
     {
+        let small_key = narrow(key)?;
+        let small_node = narrow(node.index())?;
+        let end = narrow(self.entries.len() + 1)?;
         widen(
             self.alloc,
             self.entries.as_slice(),
@@ -87,8 +91,8 @@ impl Index {
         self.next.reserve(1)?;
         let bucket = key % self.heads.len();
         self.next.push(self.heads[bucket]).unwrap();
-        self.entries.push((key, node)).unwrap();
-        self.heads[bucket] = self.entries.len();
+        self.entries.push((small_key, small_node)).unwrap();
+        self.heads[bucket] = end;
         Ok(())
     }
 
@@ -103,7 +107,7 @@ impl Index {
         let Some(head) = self.next.pop() else {
             unreachable!()
         };
-        let bucket = last.0 % self.heads.len();
+        let bucket = last.0 as usize % self.heads.len();
         self.heads[bucket] = head;
     }
 

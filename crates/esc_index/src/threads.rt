@@ -1,15 +1,15 @@
 //! Threads through the places of one bucket.
 
-ghost use Rattle.std.specs.Prelude.{◌≡◌, ℕ, ◌<◌, ◌≤◌, length, slice_index, All, OnOk, IfSome, IfNone};
+ghost use Rattle.std.specs.Prelude.{◌≡◌, ℕ, ◌<◌, ◌≤◌, ◌^◌, length, slice_index, All, OnOk, IfSome, IfNone};
 ghost use Rattle.esc_index.specs.IndexInside.{IsHeld};
 ghost use Rattle.esc_index.specs.Places.{entry_at, HasNone, IsLastBefore};
 ghost use Rattle.esc_index.specs.ThreadsInside.{IsThreaded};
 
-use esc_union::Node;
 use std::alloc::{AllocError, Global};
 
 /// Threads all places, where no bucket has any.
-pub(crate) fn thread(entries: &[(usize, Node)], heads: &mut [usize], next: &mut [usize])
+pub(crate) fn thread(entries: &[(u32, u32)], heads: &mut [u32], next: &mut [u32])
+    requires small { length entries.now < 2 ^ 32 }
     requires some { 0 < length heads.old }
     requires empty { All (λ h. h ≡ 0) heads.old }
     requires as_many { length next.old ≡ length entries.now }
@@ -18,19 +18,20 @@ pub(crate) fn thread(entries: &[(usize, Node)], heads: &mut [usize], next: &mut 
     ensures threaded { IsThreaded entries.now (length entries.now) heads.new next.new }
 {
     'places: for (place, entry) in entries.iter().enumerate() {
-        let bucket = entry.0 % heads.len();
+        let bucket = entry.0 as usize % heads.len();
         next[place] = heads[bucket];
-        heads[bucket] = place + 1;
+        heads[bucket] = (place + 1) as u32;
     }
 }
 
 /// Has more buckets than there are places.
 pub(crate) fn widen(
     alloc: Global,
-    entries: &[(usize, Node)],
-    heads: &mut Vec<usize>,
-    next: &mut Vec<usize>,
+    entries: &[(u32, u32)],
+    heads: &mut Vec<u32>,
+    next: &mut Vec<u32>,
 ) -> Result<(), AllocError>
+    requires small { length entries.now < 2 ^ 32 }
     requires as_many { length next.old.items ≡ length entries.now }
     requires threaded { IsThreaded entries.now (length entries.now) heads.old.items next.old.items }
     ensures some { OnOk result (0 < length heads.new.items) }
@@ -49,9 +50,9 @@ pub(crate) fn widen(
 
 /// The last place before `end` that has the key, where `end` is the end or has the key.
 pub(crate) fn last_place(
-    entries: &[(usize, Node)],
-    heads: &[usize],
-    next: &[usize],
+    entries: &[(u32, u32)],
+    heads: &[u32],
+    next: &[u32],
     key: usize,
     end: usize,
 ) -> Option<usize>
@@ -70,8 +71,8 @@ pub(crate) fn last_place(
         heads[key % heads.len()]
     };
     'places: while head > 0 {
-        let place = head - 1;
-        if entries[place].0 == key {
+        let place = head as usize - 1;
+        if entries[place].0 as usize == key {
             return Some(place);
         }
         head = next[place];

@@ -5,3 +5,4 @@ pub mod Linking
 pub mod DigestLevels
 pub mod Digests
 pub mod Passing
+pub mod Spans

@@ -10,25 +10,24 @@ mod term;
 use crate::digest::{digest_top, mix};
 use crate::table::Table;
 use crate::top::Top;
-use esc_union::Node;
-use smallvec::SmallVec;
+use esc_union::{Node, narrow};
 use std::alloc::{AllocError, Global};
 use std::marker::Model;
 
-/// Most terms have no more arguments than these, and need no memory of their own.
-const INLINE_ARGS: usize = 4;
-
-#[derive(Drop)]
+/// The top of a node's term, and the places of its arguments among those of all nodes.
+#[derive(Clone, Copy)]
 struct Entry {
     top: Top,
-    args: SmallVec<Node, INLINE_ARGS>,
+    start: u32,
+    end: u32,
 }
 
-/// The nodes in the order of making, and a table by which they are found.
+/// The nodes in the order of making with their arguments, and a table by which they are found.
 #[derive(Drop)]
 pub struct Nodes {
     alloc: Global,
     entries: Vec<Entry>,
+    args: Vec<Node>,
     table: Table,
 }
 
@@ -52,6 +51,7 @@ impl Nodes {
         Nodes {
             alloc,
             entries: Vec::new(alloc),
+            args: Vec::new(alloc),
             table: Table::new(alloc),
         }
     }
@@ -77,7 +77,8 @@ impl Nodes {
         requires { node < length self.now }
         ensures { result.now ≡ (shape_at self.now node).args }
     {
-        self.entries[node.index()].args.as_slice()
+        let entry = self.entries[node.index()];
+        &self.args[entry.start as usize..entry.end as usize]
     }
 
     /// The node with this top and these arguments, in the expected time of the arguments.
@@ -140,10 +141,13 @@ impl Nodes {
         ensures err { OnErr result (self.new ≡ self.old) }
     {
         let digest = self.digest_of(top, args);
-        let args = SmallVec::from_slice(self.alloc, args)?;
+        let start = narrow(self.args.len())?;
+        let end = narrow(self.args.len() + args.len())?;
         self.entries.reserve(1)?;
+        self.args.reserve(args.len())?;
         self.table.push(digest)?;
-        self.entries.push(Entry { top, args }).unwrap();
+        self.args.extend_from_slice(args).unwrap();
+        self.entries.push(Entry { top, start, end }).unwrap();
         Ok(())
     }
 
@@ -153,7 +157,10 @@ impl Nodes {
         ensures rest { self.new ≡ take (length self.old - 1) self.old }
         ensures terms { AreTerms self.new }
     {
-        let _ = self.entries.pop();
+        let Some(entry) = self.entries.pop() else {
+            unreachable!()
+        };
+        self.args.truncate(entry.start as usize);
         self.table.pop();
     }
 }

@@ -1,9 +1,10 @@
 //! Nodes by the digests of their terms.
 
-ghost use Rattle.std.specs.Prelude.{◌≡◌, ℕ, ◌+◌, ◌-◌, ◌<◌, ◌≤◌, ◌%◌, [], ◌∷◌, ◌++◌};
+ghost use Rattle.std.specs.Prelude.{◌≡◌, ℕ, ◌+◌, ◌-◌, ◌<◌, ◌≤◌, ◌%◌, ◌^◌, [], ◌∷◌, ◌++◌};
 ghost use Rattle.std.specs.Prelude.{length, take, OnOk, OnErr, IfSome, IfNone, slice_index};
 ghost use Rattle.esc_nodes.specs.TableInside.{IsEnd, AreLinked, bucket_at};
 
+use esc_union::narrow;
 use std::alloc::{AllocError, Global};
 use std::marker::Model;
 
@@ -12,13 +13,13 @@ const LEAST_BUCKETS: usize = 16;
 
 /// The digest of each node. The remainder of a digest by the number of buckets is its bucket. An
 /// end is one past the last node of a bucket, and 0 where there is none: there is the end of each
-/// bucket, and for each node the end of its bucket before that node was made.
+/// bucket, and for each node the end of its bucket before that node was made, in 32 bits.
 #[derive(Drop)]
 pub(crate) struct Table {
     alloc: Global,
     digests: Vec<u64>,
-    ends: Vec<usize>,
-    ends_before: Vec<usize>,
+    ends: Vec<u32>,
+    ends_before: Vec<u32>,
 }
 
 impl Model for Table {
@@ -62,7 +63,7 @@ impl Table {
         if self.ends.is_empty() {
             return 0;
         }
-        self.ends[bucket(digest, self.ends.len())]
+        self.ends[bucket(digest, self.ends.len())] as usize
     }
 
     /// The end of the bucket of a node's digest before the node was made.
@@ -70,7 +71,7 @@ impl Table {
         requires { index < length self.now.digests }
         ensures { IsEnd (bucket_at self.now) (bucket_at self.now index) index result }
     {
-        self.ends_before[index]
+        self.ends_before[index] as usize
     }
 
     /// Adds a node with this digest.
@@ -78,18 +79,20 @@ impl Table {
         ensures ok { OnOk result (self.new.digests ≡ self.old.digests ++ digest ∷ []) }
         ensures err { OnErr result (self.new.digests ≡ self.old.digests) }
     {
+        let end = narrow(self.digests.len() + 1)?;
         self.add_buckets()?;
         self.digests.reserve(1)?;
         self.ends_before.reserve(1)?;
         let bucket = bucket(digest, self.ends.len());
         self.ends_before.push(self.ends[bucket]).unwrap();
         self.digests.push(digest).unwrap();
-        self.ends[bucket] = self.digests.len();
+        self.ends[bucket] = end;
         Ok(())
     }
 
     /// Gives the table more buckets than nodes.
     fn add_buckets(&mut self) -> Result<(), AllocError>
+        requires { length self.old.digests < 2 ^ 32 }
         ensures digests { self.new.digests ≡ self.old.digests }
         ensures ok { OnOk result (0 < self.new.buckets) }
     {
@@ -129,10 +132,11 @@ fn bucket(digest: u64, buckets: usize) -> usize
 fn grow(
     alloc: Global,
     digests: &[u64],
-    ends_before: &mut [usize],
-    ends: &mut Vec<usize>,
+    ends_before: &mut [u32],
+    ends: &mut Vec<u32>,
 ) -> Result<(), AllocError>
-    requires { length ends_before.old ≡ length digests.now }
+    requires small { length digests.now < 2 ^ 32 }
+    requires as_long { length ends_before.old ≡ length digests.now }
     ensures some { OnOk result (0 < length ends.new.items) }
     ensures count { length ends_before.new ≡ length ends_before.old }
     ensures ok { OnOk result
@@ -141,14 +145,15 @@ fn grow(
         ((ends.new.items ≡ ends.old.items) × (ends_before.new ≡ ends_before.old)) }
 {
     let buckets = ends.len().saturating_mul(2).max(LEAST_BUCKETS);
-    let mut wider = vec![in alloc; 0; buckets]?;
+    let mut wider: Vec<u32> = vec![in alloc; 0; buckets]?;
     link(digests, ends_before, wider.as_mut_slice());
     *ends = wider;
     Ok(())
 }
 
 /// Links the nodes of each bucket, from buckets that are empty.
-fn link(digests: &[u64], ends_before: &mut [usize], ends: &mut [usize])
+fn link(digests: &[u64], ends_before: &mut [u32], ends: &mut [u32])
+    requires small { length digests.now < 2 ^ 32 }
     requires as_long { length ends_before.old ≡ length digests.now }
     requires some { 0 < length ends.old }
     requires empty { (b : ℕ) → slice_index ends.old b ≡ 0 }
@@ -158,6 +163,6 @@ fn link(digests: &[u64], ends_before: &mut [usize], ends: &mut [usize])
     'nodes: for (index, digest) in digests.iter().enumerate() {
         let bucket = bucket(*digest, ends.len());
         ends_before[index] = ends[bucket];
-        ends[bucket] = index + 1;
+        ends[bucket] = (index + 1) as u32;
     }
 }

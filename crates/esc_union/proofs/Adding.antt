@@ -4,7 +4,7 @@ use Rattle.std.proofs.lemmas.List.{map-set, set_comm, set-set, set-get_or, get_o
 
 module _ {V : Type 0} (f : V → List ℕ) (ms : List V) (a b : ℕ) (e w m d g : V) (a_in : a
     < length ms) (b_in : b < length ms) (apart : a ≢ b)
-    (was : m ≡ get_or ms a d) where
+    (was : f m ≡ f (get_or ms a d)) where
   list_at : (i : ℕ) (x : V) → i < length ms → get_or (map f ms) i [] ≡ f (get_or ms i x)
   list_at i x l = get_or-map f ms i x [] l
 
@@ -18,7 +18,7 @@ module _ {V : Type 0} (f : V → List ℕ) (ms : List V) (a b : ℕ) (e w m d g 
       ∙ ap (λ l. set l b (f w)) (map-set f ms a e))
       ∙ (set_comm (set (map f ms) a (f e)) b a (f w) (f m) (λ k. apart (sym k))
       ∙ ap (λ l. set l b (f w)) (set-set (map f ms) a (f e) (f m)
-      ∙ (ap (λ x. set (map f ms) a x) (ap f was ∙ sym (list_at a d a_in))
+      ∙ (ap (λ x. set (map f ms) a x) (was ∙ sym (list_at a d a_in))
       ∙ set-get_or (map f ms) a []))))
 
   pub added : f w ≡ f (get_or (set ms a e) b g) ++ f m →
@@ -27,7 +27,7 @@ module _ {V : Type 0} (f : V → List ℕ) (ms : List V) (a b : ℕ) (e w m d g 
   added is =
       put_back ∙ ap (λ x. set (map f ms) b x)
       (is ∙ (ap (λ x. f x ++ f m) other_at ∙ (ap (λ x. x ++ f m) (sym (list_at b g b_in))
-      ∙ ap (λ x. get_or (map f ms) b [] ++ x) (ap f was ∙ sym (list_at a d a_in)))))
+      ∙ ap (λ x. get_or (map f ms) b [] ++ x) (was ∙ sym (list_at a d a_in)))))
 
   pub as_it_was : f w ≡ f (get_or (set ms a e) b g) → map f (set (set (set ms a e) b w) a m)
       ≡ map f ms

@@ -1,7 +1,7 @@
 -- The members of a class that a merge did away with stay as they were.
 use Rattle.std.proofs.Common.{◌≡◌, ◌≢◌, ℕ, ◌+◌, ◌<◌, ◌↔◌, List, [], ◌∷◌, ◌++◌, length, take, drop, map, get_or, inl, inr, All, refl, ap, sym, subst, ◌∙◌, append_assoc, arith}
 use Rattle.std.specs.List.{Contains}
-use Rattle.std.proofs.lemmas.List.{append-nil, get_or_default, take-append-drop, take_more, length-map}
+use Rattle.std.proofs.lemmas.List.{append-nil, take-append-drop, take_more, length-map}
 use Rattle.esc_union.specs.Merges.{AreMerges, class_number, merge_at}
 use Rattle.esc_union.specs.Members.{members_of, moved_by}
 use Rattle.esc_union.specs.PartitionInside.{IsHeld}
@@ -10,7 +10,7 @@ use Rattle.std.proofs.lemmas.List.Elements.{All-append, All-get_or}
 use Rattle.esc_union.proofs.Ends.{by_ends, All-front, All-last, All-one}
 use Rattle.esc_union.proofs.Numbers.{class_number-beyond}
 use Rattle.esc_union.proofs.Holding.{AreMerges-fewer, read_list}
-use Rattle.esc_union.proofs.Members.{IsTold, are_told, was_own, goes, stays, AreMerges-front, AreMerges-last, members_of-none, members_of-grown, members_of-kept}
+use Rattle.esc_union.proofs.Members.{IsTold, are_told, was_own, AreMerges-front, AreMerges-last, members_of-none, members_of-grown, members_of-kept}
 
 -- a number that is gone does not come back, and its list stays
 gone : (count : ℕ) (ms : List (ℕ × ℕ)) (k : ℕ) → class_number ms k ≢ k → (more : List (ℕ × ℕ))

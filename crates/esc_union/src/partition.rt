@@ -2,20 +2,22 @@ ghost use Rattle.std.specs.Prelude.{◌≡◌, ℕ, ◌+◌, ◌-◌, ◌<◌, �
 ghost use Rattle.esc_union.specs.Members.{members_of, moved_by};
 ghost use Rattle.esc_union.specs.Merges.{SameClass, IsClassOf, AreMerges, class_number};
 
-use crate::lists::{add_members, set_roots};
+use crate::bits::narrow;
+use crate::lists::{Members, add_members, set_roots};
 use crate::node::Node;
 use std::alloc::{AllocError, Global};
 use std::marker::Model;
 
 /// For each node the root of its class, for each root the members of its class, the merges, and
-/// for each merge the root that it did away with, whose members stay as they were.
+/// for each merge the root that it did away with, whose members stay as they were. Roots are held
+/// in 32 bits.
 #[derive(Drop)]
 pub struct Partition {
     alloc: Global,
-    roots: Vec<Node>,
-    members: Vec<Vec<Node>>,
+    roots: Vec<u32>,
+    members: Vec<Members>,
     merges: Vec<(Node, Node)>,
-    absorbed: Vec<Node>,
+    absorbed: Vec<u32>,
 }
 
 impl Model for Partition {
@@ -59,7 +61,7 @@ impl Partition {
         ensures there { result < self.now.count }
         ensures own { class_number self.now.merges result ≡ result }
     {
-        self.roots[node.index()]
+        Node::new(self.roots[node.index()] as usize)
     }
 
     /// Whether two nodes stand in one class.
@@ -78,7 +80,7 @@ impl Partition {
         ensures list { result.now ≡ members_of self.now.merges (class_number self.now.merges node) }
     {
         let root = self.roots[node.index()];
-        self.members[root.index()].as_slice()
+        self.members[root as usize].as_slice()
     }
 
     /// The merges, in order.
@@ -94,7 +96,7 @@ impl Partition {
         ensures { result.now ≡ moved_by self.now.merges merge }
     {
         let root = self.absorbed[merge];
-        self.members[root.index()].as_slice()
+        self.members[root as usize].as_slice()
     }
 
     /// Adds a node, which stands alone.
@@ -104,11 +106,12 @@ impl Partition {
     {
         self.roots.reserve(1)?;
         self.members.reserve(1)?;
-        let node = Node::new(self.roots.len());
-        let mut alone = Vec::new(self.alloc);
-        alone.push(node)?;
+        let node = self.roots.len();
+        let root = narrow(node)?;
+        let mut alone = Members::new(self.alloc);
+        alone.push(Node::new(node))?;
         self.members.push(alone).unwrap();
-        self.roots.push(node).unwrap();
+        self.roots.push(root).unwrap();
         Ok(())
     }
 
@@ -139,7 +142,7 @@ impl Partition {
         self.merges.reserve(1)?;
         self.absorbed.reserve(1)?;
         add_members(&mut self.members, small, large, self.alloc)?;
-        let moving = self.members[small.index()].as_slice();
+        let moving = self.members[small as usize].as_slice();
         set_roots(&mut self.roots, moving, large);
         self.absorbed.push(small).unwrap();
         self.merges.push((from, into)).unwrap();
@@ -161,9 +164,9 @@ impl Partition {
             unreachable!()
         };
         let large = self.roots[last.1.index()];
-        let moving = self.members[small.index()].as_slice();
+        let moving = self.members[small as usize].as_slice();
         set_roots(&mut self.roots, moving, small);
-        let kept = self.members[large.index()].len() - moving.len();
-        self.members[large.index()].truncate(kept);
+        let kept = self.members[large as usize].len() - moving.len();
+        self.members[large as usize].truncate(kept);
     }
 }

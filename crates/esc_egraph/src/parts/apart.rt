@@ -22,8 +22,29 @@ impl Parts {
         self.has_forbidden_between(a, b) || self.has_numerals_between(a, b)
     }
 
-    /// Whether a forbidden pair has one side in each of two classes.
+    /// Whether a forbidden pair has one side in each of two classes: by the pairs where they are
+    /// fewer than the members of either class.
     fn has_forbidden_between(&self, a: Node, b: Node) -> bool
+        requires sound { IsSound self.now }
+        requires a_is_there { a < length self.now.nodes }
+        requires b_is_there { b < length self.now.nodes }
+        ensures { IsTrue result ↔ Any (Joins (class_number self.now.classes.merges) a b)
+            self.now.forbidden.items }
+    {
+        let pairs = self.forbidden.as_slice();
+        let fewest = self
+            .classes
+            .members(a)
+            .len()
+            .min(self.classes.members(b).len());
+        if pairs.len() <= fewest {
+            return any_joins(&self.classes, pairs, a, b);
+        }
+        self.has_side_of_members(a, b)
+    }
+
+    /// The same, by the members of the smaller class.
+    fn has_side_of_members(&self, a: Node, b: Node) -> bool
         requires sound { IsSound self.now }
         requires a_is_there { a < length self.now.nodes }
         requires b_is_there { b < length self.now.nodes }
@@ -102,6 +123,33 @@ impl Parts {
         }
         false
     }
+}
+
+/// Whether one of some pairs has one side in each of two classes.
+fn any_joins(classes: &Partition, pairs: &[(Node, Node)], a: Node, b: Node) -> bool
+    requires low { All (λ p. (p.0 < classes.now.count) × (p.1 < classes.now.count)) pairs.now }
+    requires a_is_there { a < classes.now.count }
+    requires b_is_there { b < classes.now.count }
+    ensures { IsTrue result ↔ Any (Joins (class_number classes.now.merges) a b) pairs.now }
+{
+    'pairs: for pair in pairs {
+        if joins(classes, *pair, a, b) {
+            return true;
+        }
+    }
+    false
+}
+
+/// Whether a pair has one side in each of two classes.
+fn joins(classes: &Partition, pair: (Node, Node), a: Node, b: Node) -> bool
+    requires first_is_there { pair.0 < classes.now.count }
+    requires second_is_there { pair.1 < classes.now.count }
+    requires a_is_there { a < classes.now.count }
+    requires b_is_there { b < classes.now.count }
+    ensures { IsTrue result ↔ Joins (class_number classes.now.merges) a b pair }
+{
+    (classes.same(pair.0, a) && classes.same(pair.1, b))
+        || (classes.same(pair.0, b) && classes.same(pair.1, a))
 }
 
 /// Whether a node has an entry whose node stands in the class of another.

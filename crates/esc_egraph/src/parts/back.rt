@@ -80,8 +80,8 @@ fn take_back(nodes: usize, merges: usize, table: &mut Index, steps: &mut Vec<Ste
     ensures { IsTakenBack nodes merges table.old steps.old.items table.new steps.new.items result }
 {
     if let Some(step) = steps.pop() {
-        if step.nodes == nodes && step.merges == merges {
-            table.truncate(step.table);
+        if step.nodes as usize == nodes && step.merges as usize == merges {
+            table.truncate(step.table as usize);
             return step.whole;
         }
     }

@@ -32,6 +32,8 @@ impl Parts {
         ensures others { graph_in self.new ≡ record (graph_in self.old)
             { merges = self.new.classes.merges } }
         ensures more { Adds self.old.classes.merges self.new.classes.merges }
+        ensures known { SameClass (number_of (graph_in self.old)) a b
+            → (graph_in self.new ≡ graph_in self.old) × (trail.new ≡ trail.old) }
         ensures undo { Notes graph_undo R.carried_node trail.old.records trail.new.records
             (graph_in self.old) (graph_in self.new) }
         ensures broken { IfOk result (λ broken. IsTrue broken ↔ IsBroken (graph_in self.new)) }

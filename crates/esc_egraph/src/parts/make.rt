@@ -143,19 +143,19 @@ impl Parts {
     {
         self.steps.reserve(1)?;
         self.numerals.reserve(1)?;
-        let step = self.step();
+        let step = self.step()?;
         let key = signature_key(&self.classes, top, args);
         push_entries(
             &mut self.uses,
             &mut self.table,
-            step.nodes,
+            step.nodes as usize,
             key,
             args,
             enters,
         )?;
         if let Err(error) = push_node(&mut self.nodes, &mut self.classes, top, args) {
             self.uses.truncate(self.uses.len() - args.len());
-            self.table.truncate(step.table);
+            self.table.truncate(step.table as usize);
             return Err(error);
         }
         self.steps.push(step).unwrap();

@@ -18,48 +18,48 @@ returns-in_err-push_entries-clause-sound c =
 pub returns-in-Err-clause-sound : goal.returns-in-Err-clause-sound
 returns-in-Err-clause-sound c =
     let added : c.push_entries.new.uses ≡ c.args.self.now.uses
-    ++ map (λ a. (a, c.step-step.result.nodes)) c.args.args.now
+    ++ map (λ a. (a, c.in_ok-step.step.nodes)) c.args.args.now
     = c.in_ok-push_entries.ensures.uses in
     let count : length c.args.self.now.uses ≡ c.len.result - length c.args.args.now =
     omega (
       arith,
       c.len.ensures,
       ap length added,
-      length-append c.args.self.now.uses (map (λ a. (a, c.step-step.result.nodes)) c.args.args.now),
-      length-map {B = ℕ × ℕ} c.args.args.now (λ a. (a, c.step-step.result.nodes)),
+      length-append c.args.self.now.uses (map (λ a. (a, c.in_ok-step.step.nodes)) c.args.args.now),
+      length-map {B = ℕ × ℕ} c.args.args.now (λ a. (a, c.in_ok-step.step.nodes)),
     ) in
     sound_same c.args.self.now _ c.requires.sound c.in-Err.ensures.no_nodes
     c.in-Err.ensures.no_classes refl refl c.reserve-2.ensures.items
     (c.truncate.ensures ∙ (ap (take (c.len.result - length c.args.args.now)) added
-    ∙ take_at c.args.self.now.uses (map (λ a. (a, c.step-step.result.nodes)) c.args.args.now)
+    ∙ take_at c.args.self.now.uses (map (λ a. (a, c.in_ok-step.step.nodes)) c.args.args.now)
     (c.len.result - length c.args.args.now) count))
-    (c.truncate-in-Err.ensures ∙ (ap (take c.step-step.result.table)
+    (c.truncate-in-Err.ensures ∙ (ap (take c.in_ok-step.step.table)
     (c.in_ok-push_entries.ensures.table ∙ own_table c.args.enters c.args.self.now.table
-    (c.signature_key-key.result, c.step-step.result.nodes))
+    (c.signature_key-key.result, c.in_ok-step.step.nodes))
     ∙ take_at c.args.self.now.table (own_entries c.args.enters
-    (c.signature_key-key.result, c.step-step.result.nodes)) c.step-step.result.table
-    (sym (ap (λ (s : Step). s.table) c.step-step.ensures))))
+    (c.signature_key-key.result, c.in_ok-step.step.nodes)) c.in_ok-step.step.table
+    (sym (ap (λ (s : Step). s.table) c.in_ok-step.ensures))))
     c.reserve.ensures.items refl
 
 pub returns-clause-sound : goal.returns-clause-sound
 returns-clause-sound c =
     let s : Shape = record { top = c.args.top; args = c.args.args.now } in
-    let number : c.step-step.result.nodes ≡ length c.args.self.now.nodes = ap
-    (λ (t : Step). t.nodes) c.step-step.ensures in
+    let number : c.in_ok-step.step.nodes ≡ length c.args.self.now.nodes = ap
+    (λ (t : Step). t.nodes) c.in_ok-step.ensures in
     let key : c.signature_key-key.result ≡ key_of (class_number c.args.self.now.classes.merges) s
     = c.signature_key-key.ensures in
     let numerals : c.push-2.new.self.items ≡ c.args.self.now.numerals.items
     ++ (c.place_of.result ∷ []) = grind (arith, common_steps) in
     let steps : c.push.new.self.items ≡ c.args.self.now.steps.items
-    ++ (c.step-step.result ∷ []) = grind (arith, common_steps) in
-    sound_made c.args.self.now _ s c.place_of.result c.step-step.result
+    ++ (c.in_ok-step.step ∷ []) = grind (arith, common_steps) in
+    sound_made c.args.self.now _ s c.place_of.result c.in_ok-step.step
     (own_entries c.args.enters (
       key_of (class_number c.args.self.now.classes.merges) s,
       length
           c.args.self.now.nodes,
     ))
     c.requires.sound (subst AreTerms c.in_default.ensures.nodes c.in_default.ensures.terms)
-    c.place_of.ensures c.step-step.ensures
+    c.place_of.ensures c.in_ok-step.ensures
     (own_low c.args.enters (
       key_of (class_number c.args.self.now.classes.merges) s,
       length
@@ -72,8 +72,8 @@ returns-clause-sound c =
     ++ map (λ a. (a, n)) c.args.args.now) number)
     (c.in_ok-push_entries.ensures.table
     ∙ (own_table c.args.enters c.args.self.now.table
-    (c.signature_key-key.result, c.step-step.result.nodes)
-    ∙ (ap (λ k. c.args.self.now.table ++ own_entries c.args.enters (k, c.step-step.result.nodes))
+    (c.signature_key-key.result, c.in_ok-step.step.nodes)
+    ∙ (ap (λ k. c.args.self.now.table ++ own_entries c.args.enters (k, c.in_ok-step.step.nodes))
     key
     ∙ ap (λ n. c.args.self.now.table ++ own_entries c.args.enters
     (key_of (class_number c.args.self.now.classes.merges) s, n)) number)))

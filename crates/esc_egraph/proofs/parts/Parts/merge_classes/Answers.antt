@@ -69,11 +69,11 @@ returns-clause-sound c =
     (class_number c.args.self.now.classes.merges c.args.into)) =
     omega (arith, more d) in
     let steps : c.push.new.self.items ≡ c.args.self.now.steps.items
-    ++ (c.step-step.result ∷ []) = grind (arith, common_steps) in
+    ++ (c.in_ok-step.step ∷ []) = grind (arith, common_steps) in
     sound_merged c.args.self.now _ (c.args.from, c.args.into) c.first_place-place.result
-    c.step-step.result c.requires.sound
+    c.in_ok-step.step c.requires.sound
     c.requires.from_is_there c.requires.into_is_there c.requires.apart
     (placed c.first_place-place.result _ _ _ _ _ _ _ _ c.first_place-place.ensures e1 e2 e3 e4)
-    c.step-step.ensures refl c.in_ok-merge.ensures.ok refl refl
+    c.in_ok-step.ensures refl c.in_ok-merge.ensures.ok refl refl
     (ap (λ i. set c.args.self.now.numerals.items i c.first_place-place.result) (c.index-5.ensures
     ∙ large)) refl refl steps refl

@@ -1,4 +1,4 @@
-use Rattle.std.proofs.Common.{◌≡◌, ◌<◌, [], ◌∷◌, ◌++◌, length, arith, ap, sym, subst, ◌∙◌}
+use Rattle.std.proofs.Common.{◌≡◌, ◌<◌, [], ◌∷◌, ◌++◌, length, arith, ap, refl, sym, subst, ◌∙◌}
 use Rattle.std.proofs.lemmas.Grind.{common_steps}
 use Rattle.std.proofs.lemmas.List.{length-map}
 use Rattle.esc_union.specs.Merges.{Merged, SameClass, class_number}
@@ -66,13 +66,12 @@ add_members-requires-clause-into_is_there c =
       length-map c.self.inside.members.items (λ v. v.items),
     )
 
-pub index-requires-4 : goal.index-requires-4
-index-requires-4 c =
-    let d = (goal.at.index-requires-4 c).In_ok-add_members in
+pub index-requires-3 : goal.index-requires-3
+index-requires-3 c =
+    let d = (goal.at.index-requires-3 c).In_ok-add_members in
     let there : c.args.from < length c.self.inside.roots.items = from_there d in
     omega (
       arith,
-      c.index-3.ensures,
       read_root c.self.inside.roots.items _ c.args.from _ c.index.ensures there
           c.index-small.ensures,
       root_low _ _ _ _ c.self.invariant c.args.from there,
@@ -83,13 +82,13 @@ index-requires-4 c =
 pub set_roots-requires : goal.set_roots-requires
 set_roots-requires c =
     let d = (goal.at.set_roots-requires c).In_ok-add_members in
-    rw c.as_slice-moving.ensures.value
+    rw c.as_slice-moving.ensures
     (moving_low (λ v. v.items) c.self.inside.merges.items c.self.inside.roots.items
     c.self.inside.absorbed.items
     c.self.inside.members.items c.add_members.new.members.items c.self.invariant
     (c.args.from, c.args.into) (from_there d) (into_there d) (apart d)
-    _ _ (small_is d) (large_is d) d.in_ok-add_members.ensures.ok c.index-4.result.now _
-    c.index-3.ensures c.index-4.ensures)
+    _ _ (small_is d) (large_is d) d.in_ok-add_members.ensures.ok c.index-3.result.now _
+    refl c.index-3.ensures)
 
 pub invariant_of-self-2 : goal.invariant_of-self-2
 invariant_of-self-2 c =
@@ -103,8 +102,8 @@ invariant_of-self-2 c =
     c.self.inside.absorbed.items
     c.self.inside.members.items c.add_members.new.members.items c.self.invariant
     (c.args.from, c.args.into) (from_there d) (into_there d) (apart d)
-    _ _ (small_is d) (large_is d) d.in_ok-add_members.ensures.ok c.index-4.result.now _
-    c.index-3.ensures c.index-4.ensures
+    _ _ (small_is d) (large_is d) d.in_ok-add_members.ensures.ok c.index-3.result.now _
+    refl c.index-3.ensures
     c.set_roots.new.roots.items c.set_roots.ensures.count
-    (rw c.as_slice-moving.ensures.value at c.set_roots.ensures.these)
-    (rw c.as_slice-moving.ensures.value at c.set_roots.ensures.others))
+    (rw c.as_slice-moving.ensures at c.set_roots.ensures.these)
+    (rw c.as_slice-moving.ensures at c.set_roots.ensures.others))

@@ -1,25 +1,24 @@
-use Rattle.std.proofs.Common.{◌≡◌, ℕ, ◌<◌, List, length, map, get_or, arith, ap, subst, ◌∙◌}
+use Rattle.std.proofs.Common.{◌≡◌, ◌<◌, length, get_or, arith, ap, refl, ◌∙◌}
 use Rattle.std.proofs.lemmas.List.{length-map, get_or_default}
 use Rattle.esc_union.specs.Merges.{Merged}
 use Rattle.esc_union.proofs.Moved.{moved_low, moved_read}
 use Rattle.esc_union.proofs.partition.Partition.moved.Goals as goal
-use Rattle.esc_union.proofs.partition.Partition.moved.Goals.{After-index}
+use Rattle.esc_union.proofs.partition.Partition.moved.Goals.{After-index-root}
 
-there : (c : After-index) → c.args.merge < length c.self.inside.merges.items
+there : (c : After-index-root) → c.args.merge < length c.self.inside.merges.items
 there c = omega (arith, c.requires, ap (λ (h : Merged). length h.merges) c.self.view_is)
 
-root_is : (c : After-index) → c.index-root.result.now
+root_is : (c : After-index-root) → c.index-root.result.now
     ≡ get_or c.self.inside.absorbed.items c.args.merge 0
 root_is c = c.index-root.ensures ∙ get_or_default c.self.inside.absorbed.items c.args.merge
     c.index-root.result.now 0
     (omega (arith, there c, c.self.invariant.as_many))
 
-pub index-requires-2 : goal.index-requires-2
-index-requires-2 c =
-    let d = (goal.at.index-requires-2 c).After-index in
+pub index-requires : goal.index-requires
+index-requires c =
+    let d = (goal.at.index-requires c).After-index-root in
     omega (
       arith,
-      c.index.ensures,
       c.self.inside.members.ok.0,
       length-map c.self.inside.members.items (λ v. v.items),
       moved_low (λ v. v.items) _ _ _ c.self.inside.members.items c.self.invariant c.args.merge
@@ -28,8 +27,8 @@ index-requires-2 c =
 
 pub returns : goal.returns
 returns c =
-    let d = (goal.at.returns c).After-index in
-    rw (c.as_slice.ensures.value, ← c.self.view_is)
+    let d = (goal.at.returns c).After-index-root in
+    rw (c.as_slice.ensures, ← c.self.view_is)
     (moved_read (λ v. v.items) _ _ _ c.self.inside.members.items c.self.invariant c.args.merge
     (there d) c.index-root.result.now (root_is d)
-    _ c.index-2.result.now c.index.ensures c.index-2.ensures)
+    _ c.index.result.now refl c.index.ensures)

@@ -17,6 +17,7 @@ returns-clause-there c =
     let d = (goal.at.returns-clause-there c).After-index-2 in
     omega (
       arith,
+      c.new.ensures,
       root_is d,
       root_low _ _ _ _ c.self.invariant c.args.node (there d),
       ap
@@ -26,4 +27,5 @@ returns-clause-there c =
 pub returns-clause-own : goal.returns-clause-own
 returns-clause-own c =
     let d = (goal.at.returns-clause-own c).After-index-2 in
-    rw (← c.self.view_is, root_is d) (root_own _ _ _ _ c.self.invariant c.args.node (there d))
+    rw (← c.self.view_is, c.new.ensures, root_is d)
+    (root_own _ _ _ _ c.self.invariant c.args.node (there d))
