@@ -1,15 +1,14 @@
 -- Views that keep their lists and restrictions mean the same.
-use Rattle.std.proofs.Common.{◌≡◌, ◌≢◌, ℕ, Bool, true, false, ℤ, ◌≤ℤ◌, Result, Ok, Err, IfErr, IsErr, List, [], ◌∷◌, refl, sym, ap, subst, subst₂, arith}
+use Rattle.std.proofs.Common.{◌≡◌, ℕ, true, false, ℤ, ◌≤ℤ◌, List, [], ◌∷◌, sym, subst, subst₂, arith}
 use Rattle.std.specs.List.{Contains}
 use Rattle.std.proofs.lemmas.Int.{ints}
-use Rattle.esc_term.specs.declared.term.Term.{Term}
 use Rattle.esc_term.proofs.Members.{Contains-here, Contains-later}
-use Rattle.esc_cover.specs.Assignment.{Assignment, Gap}
+use Rattle.esc_cover.specs.Assignment.{Assignment}
 use Rattle.esc_simplex.specs.Barred.{IsBarred}
 use Rattle.esc_simplex.specs.Calls.{ExceedShows, IsForTerm, KeepsLists, both_gaps, gap_in}
 use Rattle.esc_simplex.specs.Senses.{StandsFor, senses_of, sense_value, term}
 use Rattle.esc_simplex.specs.SimplexLaws.{barred_more}
-use Rattle.esc_simplex.specs.View.{Allows, IsInUse, sense_in}
+use Rattle.esc_simplex.specs.View.{Allows, sense_in}
 use Rattle.esc_simplex.specs.declared.made.Made.{Made}
 use Rattle.esc_simplex.specs.declared.simplex.Simplex.{Simplex}
 use Rattle.esc_simplex.specs.declared.stop.Stop.{Stop}

@@ -1,21 +1,15 @@
 -- What stops the steps on a tableau is a stop of the calls.
-use Rattle.std.proofs.Common.{◌≡◌, ◌⊎◌, inl, inr, ℕ, ◌<◌, List, [], ◌∷◌, ◌++◌, Option, Some, None, refl, sym, ap, ◌∙◌, subst, subst₂, arith}
-use Rattle.std.specs.Prelude.{◌↔◌}
-use Rattle.std.specs.List.{Contains}
+use Rattle.std.proofs.Common.{◌≡◌, inl, ℕ, ◌<◌, List, Some, refl, sym, ◌∙◌, subst, subst₂, arith}
 use Rattle.esc_term.specs.declared.term.Term.{Term}
 use Rattle.esc_frac.specs.Rational.{ℚ}
-use Rattle.esc_tableau.specs.Changes.{PartsFit, start_sum}
 use Rattle.esc_tableau.specs.Listed.{tabled}
-use Rattle.esc_tableau.specs.Run.{EndsSpent, pivot_run}
-use Rattle.esc_tableau.specs.Table.{IsRestricted, IsTable, IsWithin, SameSystem, Table, sample, size}
-use Rattle.esc_tableau.specs.declared.answers.Step.{Step}
-use Rattle.esc_tableau.specs.declared.answers.Step.TheVariants.{Row}
+use Rattle.esc_tableau.specs.Table.{Table, size}
 use Rattle.esc_tableau.specs.declared.changing.Part.{Part}
 use Rattle.esc_tableau.specs.declared.listed.Rows.{Rows}
 use Rattle.esc_cover.specs.Assignment.{Gap}
-use Rattle.esc_simplex.specs.Barred.{AreKeptRows, AreRowParts, AreRowsAt, AreSensesAt, IsBarred, KeepsRows, KeptRunIsSpent, KeptStepJams, MaximisingJams, MayBeMade, RowJams}
-use Rattle.esc_simplex.specs.Senses.{AreRowsOf, Sense}
-use Rattle.esc_simplex.specs.Steps.{KeepsSystem, KeepsTable, MaximisingStops, RowStops}
+use Rattle.esc_simplex.specs.Barred.{AreKeptRows, AreRowParts, AreRowsAt, AreSensesAt, IsBarred, KeepsRows, KeptRunIsSpent, KeptStepJams, MayBeMade, RowJams}
+use Rattle.esc_simplex.specs.Senses.{Sense}
+use Rattle.esc_simplex.specs.Steps.{KeepsSystem, MaximisingStops, RowStops}
 use Rattle.esc_simplex.specs.View.{IsSimplex, senses_in}
 use Rattle.esc_simplex.specs.declared.simplex.Simplex.{Simplex}
 use Rattle.esc_simplex.specs.declared.stop.Stop.{Stop}

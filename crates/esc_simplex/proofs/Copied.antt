@@ -1,5 +1,5 @@
 -- A copy of the rows can be put again.
-use Rattle.std.proofs.Common.{◌≡◌, ℕ, ◌<◌, ◌≤◌, List, length, take, get_or, Result, Ok, Err, IfOk, refl, sym, ap, ◌∙◌, subst, arith}
+use Rattle.std.proofs.Common.{◌≡◌, ℕ, ◌<◌, List, length, take, get_or, Result, Ok, Err, IfOk, sym, subst, arith}
 use Rattle.std.specs.Prelude.{◌↔◌}
 use Rattle.std.specs.List.{All, Contains}
 use Rattle.std.proofs.lemmas.List.{length-map, take_all}
@@ -9,7 +9,7 @@ use Rattle.esc_tableau.specs.declared.listed.Rows.{Rows}
 use Rattle.esc_simplex.specs.Barred.{AreKeptRows}
 use Rattle.esc_simplex.specs.Calls.{AreRowsFor}
 use Rattle.esc_simplex.specs.Senses.{sense_of, senses_of}
-use Rattle.esc_simplex.specs.View.{IsSimplex, senses_in}
+use Rattle.esc_simplex.specs.View.{IsSimplex}
 use Rattle.esc_simplex.specs.declared.made.Made.{Made}
 use Rattle.esc_simplex.specs.declared.simplex.Simplex.{Simplex}
 

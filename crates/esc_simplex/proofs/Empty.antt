@@ -1,6 +1,5 @@
 -- No unknowns and no rows.
-use Rattle.std.proofs.Common.{◌≡◌, ℕ, ◌<◌, ◌+◌, pos, List, [], length, refl, sym, subst, arith}
-use Rattle.std.specs.List.{All, Contains}
+use Rattle.std.proofs.Common.{◌≡◌, pos, [], refl, sym, subst, arith}
 use Rattle.esc_term.proofs.Members.{Contains-none}
 use Rattle.esc_tableau.specs.Table.{IsTable, IsWithin, Table, sample, table}
 use Rattle.esc_cover.specs.Assignment.{Assignment}

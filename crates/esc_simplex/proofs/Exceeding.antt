@@ -1,17 +1,16 @@
 -- The row of a difference is added, its unknown maximised, and the row dropped: what stands then,
 -- and what the peak says.
-use Rattle.std.proofs.Common.{◌≡◌, ◌⊎◌, inl, inr, ℕ, ◌+◌, ◌<◌, ◌≤◌, Bool, true, false, cond, Option, Some, None, pos, nat_lt, refl, sym, ap, ap₂, ◌∙◌, subst, subst₂, arith}
+use Rattle.std.proofs.Common.{◌≡◌, ◌⊎◌, inl, inr, ℕ, ◌<◌, true, false, cond, Option, Some, None, nat_lt, sym, ap, ap₂, ◌∙◌, subst, subst₂, arith}
 use Rattle.std.proofs.lemmas.Int.{ints}
-use Rattle.std.proofs.lemmas.Bool.{cases_lt, lt-ltb, le-ltb, cond-true, cond-false}
+use Rattle.std.proofs.lemmas.Bool.{lt-ltb, le-ltb, cond-true, cond-false}
 use Rattle.esc_frac.specs.Rational.{ℚ, zero_ℚ, one_ℚ, ◌+ℚ◌, neg_ℚ, ◌*ℚ◌, ◌≤ℚ◌, ◌<ℚ◌}
 use Rattle.esc_frac.proofs.FieldLaws.{+ℚ_comm, +ℚ_assoc, +ℚ-zero, zero-+ℚ, +ℚ-neg_ℚ, *ℚ_comm, *ℚ-one, neg_ℚ-*ℚ}
-use Rattle.esc_frac.proofs.OrderLaws.{≤ℚ_refl, ≤ℚ_trans, ≤ℚ-+ℚ, ≤ℚ_total, <ℚ-not}
+use Rattle.esc_frac.proofs.OrderLaws.{≤ℚ_trans, ≤ℚ-+ℚ, ≤ℚ_total, <ℚ-not}
 use Rattle.esc_rows.specs.Rows.{Point}
 use Rattle.esc_tableau.specs.Changes.{AddsRow, DropsRow, parts_value}
-use Rattle.esc_tableau.specs.Laws.{RestrictedAreThere, SolutionsAreLocal}
 use Rattle.esc_tableau.specs.Run.{GrowsAlong, IsGreatest, PeakHolds}
-use Rattle.esc_tableau.specs.Table.{Table, IsRestricted, IsSolution, IsTable, IsWithin, SameSystem, sample, size}
-use Rattle.esc_tableau.specs.declared.answers.Peak.TheVariants.{NotPositive, Positive}
+use Rattle.esc_tableau.specs.Table.{Table, IsRestricted, IsSolution, IsTable, IsWithin, sample, size}
+use Rattle.esc_tableau.specs.declared.answers.Peak.TheVariants.{Positive}
 use Rattle.esc_tableau.proofs.LocalLaws.{restricted_are_there, solutions_are_local}
 use Rattle.esc_tableau.proofs.SampleLaws.{IsSolution-sample}
 use Rattle.esc_tableau.proofs.OwnerLaws.{negative_low}

@@ -1,11 +1,15 @@
 -- The first element that passes a test.
-use Rattle.std.proofs.Common.{◌≡◌, ℕ, ◌<◌, ◌≤◌, Bool, true, false, List, Option, Some, None, length, get_or, slice_get, refl, sym, ap, ◌∙◌, arith, true≢false, ◌==◌}
-use Rattle.std.specs.List.{Contains, find, position_or_len}
+use Rattle.std.proofs.Common.{◌≡◌, ℕ, ◌<◌, Bool, true, false, List, Some, None, length, get_or, slice_get, sym, ap, ◌∙◌, arith, true≢false, ◌==◌}
+use Rattle.std.specs.List.{Contains, find}
 use Rattle.std.proofs.lemmas.Bool.{eq-eqb, eqb-true}
-use Rattle.std.proofs.lemmas.List.{get_or_default}
+use Rattle.std.proofs.lemmas.List.{get_or-map, get_or_default, length-map}
 use Rattle.std.proofs.lemmas.Option.{slice_get-get_or, slice_get_past}
 use Rattle.std.specs.Option.{option_map}
+use Rattle.esc_term.specs.declared.term.Term.{Term}
+use Rattle.esc_simplex.specs.Senses.{StandsFor, sense_of, senses_of, term}
 use Rattle.esc_simplex.specs.View.{bound_to}
+use Rattle.esc_simplex.specs.declared.made.Made.{Made}
+use Rattle.esc_simplex.specs.declared.made.Made.TheVariants as made
 use Rattle.std.proofs.lemmas.List.Folds.{find_at}
 use Rattle.std.proofs.lemmas.List.Sums.{position_or_len_is}
 
@@ -58,3 +62,27 @@ bound_nowhere bound a none =
     sym (ap (option_map (λ (pair : ℕ × ℕ). pair.1))
     (find_none (λ (pair : ℕ × ℕ). pair.0 == a) bound (0, 0) none
     ∙ slice_get_past bound (length bound) (omega arith)))
+
+-- ---- entries that were made for a term
+
+pub stands_made : (ms : List Made) (t : Term) (u : ℕ) (m : Made) → u < length ms → get_or ms u m
+    ≡ made.Term t → StandsFor (senses_of ms) u (term t)
+unfolding senses_of
+stands_made ms t u m inside is = record {
+  there = omega (arith, inside, length-map ms (sense_of ms));
+  is = get_or-map (sense_of ms) ms u m _ inside ∙ ap (sense_of ms) is;
+}
+
+made_of_sense : (ms : List Made) (m : Made) (t : Term) → sense_of ms m ≡ term t → m ≡ made.Term t
+made_of_sense ms (made.Term s) t e = cc
+made_of_sense ms (made.Gap u w strict) t e = absurd (cc)
+
+pub made_for : (ms : List Made) (t : Term) (u : ℕ) (m : Made) → StandsFor (senses_of ms) u (term t)
+    → (u < length ms) × (get_or ms u m ≡ made.Term t)
+unfolding senses_of
+made_for ms t u m for =
+    let inside : u < length ms = omega (arith, for.there, length-map ms (sense_of ms)) in (
+      inside,
+      made_of_sense ms (get_or ms u m) t
+          (sym (get_or-map (sense_of ms) ms u m _ inside) ∙ for.is),
+    )

@@ -1,12 +1,12 @@
 -- The terms of a list, each once.
-use Rattle.std.proofs.Common.{◌≡◌, ◌⊎◌, inl, inr, Bool, true, false, true≢false, cond, List, [], ◌∷◌, ◌++◌, refl, sym, ap, ◌∙◌, subst}
+use Rattle.std.proofs.Common.{◌≡◌, ◌⊎◌, inl, inr, Bool, true, false, true≢false, cond, List, [], ◌∷◌, ◌++◌, refl, sym, ◌∙◌, subst}
 use Rattle.std.specs.List.{Contains, fold, list_any}
 use Rattle.esc_term.specs.declared.term.Term.{Term}
 use Rattle.std.proofs.lemmas.Map.Views.{list_any-from_Contains}
 use Rattle.std.proofs.lemmas.List.Elements.{Contains-push_cases}
 use Rattle.esc_term.specs.Equal.{same_term, same_term-equivalence}
 use Rattle.esc_term.specs.Term.{firsts, with_once}
-use Rattle.esc_term.proofs.Members.{Contains-none, Contains-here, Contains-later, Contains-cases}
+use Rattle.esc_term.proofs.Members.{Contains-none, Contains-here, Contains-later}
 
 -- no term stands twice in the list
 abbrev pub IsOnce : List Term → Type 0

@@ -1,17 +1,17 @@
 -- The value of a term under an assignment is that of its form.
-use Rattle.std.proofs.Common.{◌≡◌, ◌≢◌, ◌⊎◌, inl, inr, ℕ, ◌<◌, Bool, true, false, cond, ℤ, pos, ◌+ℤ◌, ◌*ℤ◌, List, [], ◌∷◌, ◌++◌, map, refl, sym, ap, ap₂, ◌∙◌, subst, arith}
-use Rattle.std.specs.List.{All, Contains, fold, list_any}
+use Rattle.std.proofs.Common.{◌≡◌, ◌≢◌, ◌⊎◌, inl, inr, cond, ℤ, pos, ◌*ℤ◌, List, [], ◌∷◌, map, refl, sym, ap, ap₂, ◌∙◌, subst}
+use Rattle.std.specs.List.{All, Contains}
 use Rattle.std.proofs.lemmas.List.Elements.{All-head, All-tail}
 use Rattle.esc_term.specs.declared.term.Term.{Term}
-use Rattle.esc_term.specs.Equal.{same_term, same_term-is}
+use Rattle.esc_term.specs.Equal.{same_term-is}
 use Rattle.esc_term.specs.Interpretation.{sum_of}
-use Rattle.esc_term.specs.Term.{firsts, subterms, with_once}
+use Rattle.esc_term.specs.Term.{firsts, subterms}
 use Rattle.esc_term.proofs.Members.{Contains-none, Contains-here, Contains-later, Contains-cases}
 use Rattle.esc_frac.specs.Rational.{ℚ, ratio, whole, zero_ℚ, one_ℚ, ◌+ℚ◌, ◌*ℚ◌}
 use Rattle.esc_frac.proofs.FieldLaws.{ratio-zero, +ℚ_interchange, +ℚ-zero, zero-+ℚ, *ℚ-zero, zero-*ℚ, *ℚ_comm, *ℚ_assoc, *ℚ-one, *ℚ-+ℚ, +ℚ-*ℚ}
 use Rattle.esc_linear.specs.declared.form.Part.{Part}
 use Rattle.esc_linear.specs.Forms.{form, opaque_form}
-use Rattle.esc_linear.specs.Laws.{IsLin, coefficient, only, weighted, value as form_value}
+use Rattle.esc_linear.specs.Laws.{IsLin, only, weighted, form_value}
 use Rattle.esc_linear.specs.Lin.{lin}
 use Rattle.esc_linear.proofs.PartLemmas.{differ_when}
 use Rattle.esc_linear.proofs.ProductLaw.{form-meant}

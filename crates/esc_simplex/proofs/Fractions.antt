@@ -1,8 +1,8 @@
 -- Sums and differences of fractions over one denominator.
-use Rattle.std.proofs.Common.{◌≡◌, ℕ, ◌*◌, ◌<◌, ℤ, pos, ◌+ℤ◌, ◌-ℤ◌, ◌*ℤ◌, neg_ℤ, refl, sym, ap, ap₂, ◌∙◌, subst, arith, mul-pos}
+use Rattle.std.proofs.Common.{◌≡◌, ℕ, ◌*◌, ◌<◌, ℤ, pos, ◌+ℤ◌, ◌*ℤ◌, neg_ℤ, sym, ap, ◌∙◌, arith, mul-pos}
 use Rattle.std.proofs.lemmas.Int.{ints}
 use Rattle.esc_frac.specs.Integers.{itself, natural, of_sum, of_product, same_difference}
-use Rattle.esc_frac.specs.Rational.{ℚ, ratio, whole, zero_ℚ, one_ℚ, ◌+ℚ◌, neg_ℚ, ◌*ℚ◌}
+use Rattle.esc_frac.specs.Rational.{ratio, whole, ◌+ℚ◌, neg_ℚ, ◌*ℚ◌}
 use Rattle.esc_frac.specs.RationalLaws.{same_ratio, ratio-parts}
 use Rattle.esc_frac.proofs.FieldLaws.{ratio-+ℚ-ratio, ratio-*ℚ-ratio, neg_ℚ_unique, ratio-zero}
 

@@ -1,23 +1,17 @@
 -- Rows with one gap more stand for the view, and what stops the steps on them is a stop of the
 -- calls.
-use Rattle.std.proofs.Common.{◌≡◌, ◌⊎◌, inl, inr, ℕ, ◌<◌, Bool, true, false, Result, Ok, Err, IfErr, List, [], ◌∷◌, ◌++◌, length, get_or, pos, refl, sym, ap, ◌∙◌, subst, arith}
-use Rattle.std.specs.Prelude.{◌↔◌}
-use Rattle.std.specs.List.{All, Contains}
+use Rattle.std.proofs.Common.{◌≡◌, inl, inr, ℕ, ◌<◌, Bool, false, Result, Ok, Err, IfErr, List, [], ◌∷◌, ◌++◌, length, get_or, pos, refl, sym, ap, ◌∙◌, arith}
 use Rattle.std.proofs.lemmas.List.{get_or-map, length-map}
-use Rattle.std.proofs.lemmas.List.Elements.{All-contains}
 use Rattle.esc_term.specs.declared.term.Term.{Term}
 use Rattle.esc_term.specs.declared.term.Term.TheVariants.{Num}
 use Rattle.esc_frac.specs.Rational.{ℚ, zero_ℚ, ◌+ℚ◌}
-use Rattle.esc_rows.specs.Rows.{Point}
 use Rattle.esc_tableau.specs.Changes.{AddsRow, parts_value}
 use Rattle.esc_tableau.specs.declared.changing.Part.{Part}
-use Rattle.esc_tableau.specs.Table.{IsRestricted, IsSolution, Table, size}
-use Rattle.esc_cover.specs.Assignment.{Assignment, Gap, gap}
+use Rattle.esc_tableau.specs.Table.{Table}
 use Rattle.esc_simplex.specs.Barred.{AreGapParts, AreKeptRows, AreRowsAt, IsBarred}
 use Rattle.esc_simplex.specs.Calls.{IsForTerm, gap_in}
-use Rattle.esc_simplex.specs.Senses.{AreRowsOf, Sense, StandsFor, gap_of, sense_at, sense_fraction, sense_of, senses_of, term, term_at, term_made}
-use Rattle.esc_simplex.specs.Steps.{ExceedStops, GapStops, HasGapRow, KeepsSystem, RowStops, gap_constant, gap_parts}
-use Rattle.esc_simplex.specs.SimplexUndo.{HaveSameRows}
+use Rattle.esc_simplex.specs.Senses.{AreRowsOf, Sense, StandsFor, gap_of, sense_fraction, sense_of, senses_of, term, term_at, term_made}
+use Rattle.esc_simplex.specs.Steps.{ExceedStops, KeepsSystem, gap_constant, gap_parts}
 use Rattle.esc_simplex.specs.View.{IsSimplex, senses_in}
 use Rattle.esc_simplex.specs.declared.made.Made.{Made}
 use Rattle.esc_simplex.specs.declared.made.Made.TheVariants as made
@@ -25,7 +19,6 @@ use Rattle.esc_simplex.specs.declared.simplex.Simplex.{Simplex}
 use Rattle.esc_simplex.specs.declared.stop.Stop.{Stop}
 use Rattle.esc_simplex.proofs.Barring.{barred_on, barred_row}
 use Rattle.esc_simplex.proofs.Kept.{simplex_kept}
-use Rattle.esc_simplex.proofs.Keeping.{keeps_itself}
 use Rattle.esc_simplex.proofs.Parting.{made_there}
 use Rattle.esc_simplex.proofs.Points.{point_of}
 use Rattle.esc_simplex.proofs.Rowed.{gap_whole, old_sense, rows_with_row}
@@ -37,11 +30,11 @@ many v = length-map v.made (sense_of v.made)
 
 -- ---- the term of an unknown
 
-term_in : Sense → Term
+unfoldable pub term_in : Sense → Term
 term_in (term t) = t
 term_in (gap_of g) = Num (pos 0)
 
-is_made_for : (ms : List Made) (m : Made) (t : Term) → sense_of ms m ≡ term t → term_made m ≡ t
+pub is_made_for : (ms : List Made) (m : Made) (t : Term) → sense_of ms m ≡ term t → term_made m ≡ t
 unfolding term_in
 is_made_for ms (made.Term s) t e = ap term_in e
 is_made_for ms (made.Gap u w strict) t e = absurd (cc)
@@ -85,6 +78,42 @@ at_later w t s at kept = record {
   );
 }
 
+-- ---- one row more
+
+module _ (v : Simplex) (h : IsSimplex v) (new : Table) (kept : KeepsSystem v.tableau new) where
+  -- rows with one unknown more have the view's values for the others
+  pub at_with_row : (t : Table) (s : Sense) (ps : List Part) (k : ℚ)
+      → AreRowsOf (senses_in v ++ s ∷ []) t → AddsRow v.tableau t ps k
+      → AreRowsAt (record v { tableau = new }) t
+  at_with_row t s ps k rows adds = record {
+    rows = record {
+      forth = λ p holds.
+          let found = h.rows.sound p ((kept.same.solutions p).1 holds) in
+          let q = point_of (senses_in v ++ s ∷ []) found.0 in (
+            q,
+            rows.complete q found.0 (λ y b. refl),
+            λ i d b.
+                let y = get_or v.unknowns i d in
+                let there : y < length (senses_in v) = below i d b in
+                ap (sense_fraction found.0) (old_sense (senses_in v) s y there)
+                ∙ sym (found.1 y there),
+          );
+      back = λ p holds. (
+        p,
+        (kept.same.solutions p).0 ((adds.solutions p).0 holds).0,
+        λ i d b. refl,
+      );
+    };
+    restricted = λ y. (
+      λ m. (h.marked y).0 ((adds.restrictions y).1 m),
+      λ c.
+          (adds.restrictions y).0 ((h.marked y).1 c),
+    );
+  }
+    where
+      below : (i d : ℕ) → i < length v.unknowns → get_or v.unknowns i d < length (senses_in v)
+      below i d b = omega (arith, h.listed i d b, many v)
+
 -- ---- the row of a gap
 
 module _ (v : Simplex) (h : IsSimplex v) (u w : ℕ) (upper : IsForTerm v u)
@@ -112,39 +141,6 @@ module _ (v : Simplex) (h : IsSimplex v) (u w : ℕ) (upper : IsForTerm v u)
   }
 
   module _ (new : Table) (kept : KeepsSystem v.tableau new) where
-    -- rows with one unknown more have the view's values for the others
-    pub at_with_row : (t : Table) (s : Sense) (ps : List Part) (k : ℚ)
-        → AreRowsOf (senses_in v ++ s ∷ []) t → AddsRow v.tableau t ps k
-        → AreRowsAt (record v { tableau = new }) t
-    at_with_row t s ps k rows adds = record {
-      rows = record {
-        forth = λ p holds.
-            let found = h.rows.sound p ((kept.same.solutions p).1 holds) in
-            let q = point_of (senses_in v ++ s ∷ []) found.0 in (
-              q,
-              rows.complete q found.0 (λ y b. refl),
-              λ i d b.
-                  let y = get_or v.unknowns i d in
-                  let there : y < length (senses_in v) = below i d b in
-                  ap (sense_fraction found.0) (old_sense (senses_in v) s y there)
-                  ∙ sym (found.1 y there),
-            );
-        back = λ p holds. (
-          p,
-          (kept.same.solutions p).0 ((adds.solutions p).0 holds).0,
-          λ i d b. refl,
-        );
-      };
-      restricted = λ y. (
-        λ m. (h.marked y).0 ((adds.restrictions y).1 m),
-        λ c.
-            (adds.restrictions y).0 ((h.marked y).1 c),
-      );
-    }
-      where
-        below : (i d : ℕ) → i < length v.unknowns → get_or v.unknowns i d < length (senses_in v)
-        below i d b = omega (arith, h.listed i d b, many v)
-
     barred_gap : (limit : ℕ) → limit ≡ v.limit → (s : Stop) → ExceedStops v.tableau u w limit s
         → IsBarred (record v { tableau = new }) (λ t. ⊥) (λ g. g ≡ gap_in v u w false) s
     barred_gap limit same s (inl stops) =
@@ -157,7 +153,8 @@ module _ (v : Simplex) (h : IsSimplex v) (u w : ℕ) (upper : IsForTerm v u)
         let rows = gap_rows false stops.start zero_ℚ refl stops.made.adds in
         let first : AreKeptRows (senses_in v ++ gap_of (gap_in v u w false) ∷ []) stops.start
         = record { table = stops.made.table; rows = rows; within = stops.made.within } in
-        let first_at = at_with_row stops.start (gap_of (gap_in v u w false)) (gap_parts u w) zero_ℚ
+        let first_at = at_with_row v h new kept stops.start (gap_of (gap_in v u w false))
+        (gap_parts u w) zero_ℚ
         rows stops.made.adds in
         barred_on (record v { tableau = new }) (λ t. ⊥) (λ g. g ≡ gap_in v u w false) (senses_in v
         ++ gap_of (gap_in v u w false) ∷ []) (inr (gap_in v u w false, refl, refl))

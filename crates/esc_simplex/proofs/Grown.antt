@@ -1,65 +1,88 @@
 -- One entry more behind those that were made.
-use Rattle.std.proofs.Common.{◌≡◌, ◌≢◌, ◌⊎◌, inl, inr, ℕ, suc, ◌+◌, ◌<◌, ◌≤◌, pos, List, [], ◌∷◌, ◌++◌, length, map, get_or, refl, sym, ap, ap₂, ◌∙◌, subst, arith}
+use Rattle.std.proofs.Common.{◌≡◌, ◌⊎◌, inl, inr, ℕ, suc, ◌<◌, ◌≤◌, pos, List, [], ◌∷◌, ◌++◌, length, map, get_or, refl, sym, ap, ap₂, ◌∙◌, subst, arith}
 use Rattle.std.specs.Prelude.{◌↔◌}
-use Rattle.std.specs.List.{All, Contains}
 use Rattle.std.proofs.lemmas.Bool.{cases_lt}
-use Rattle.std.proofs.lemmas.List.{get_or-map, get_or_append_left, get_or_push, get_or_default, length-map, length_push, map-append}
-use Rattle.std.proofs.lemmas.List.Elements.{All-contains, All-map}
+use Rattle.std.proofs.lemmas.List.{get_or_append_left, get_or_push, length_push, map-append}
+use Rattle.std.proofs.lemmas.List.Elements.{All-contains}
 use Rattle.esc_term.specs.declared.term.Term.{Term}
 use Rattle.esc_term.specs.declared.term.Term.TheVariants.{Num}
 use Rattle.esc_linear.specs.Forms.{form, opaque_form}
 use Rattle.esc_tableau.specs.Table.{IsRestricted, IsTable, IsWithin, Table, sample}
 use Rattle.esc_simplex.specs.Barred.{AreRowsAt}
 use Rattle.esc_simplex.specs.Senses.{AreRowsOf, Sense, StandsFor, gap_of, sense_at, sense_of, senses_of, term, term_at, term_made}
-use Rattle.esc_simplex.specs.SimplexUndo.{AreSame, HaveSameRows}
-use Rattle.esc_simplex.specs.View.{AreOnce, IsBuiltAt, IsInUse, IsOlderTerm, IsSimplex, OpaqueOnce, numbers_in, restrictions_in, sense_in, senses_in}
+use Rattle.esc_simplex.specs.SimplexUndo.{AreSame}
+use Rattle.esc_simplex.specs.View.{IsBuiltAt, IsInUse, IsSimplex, OpaqueOnce, sense_in, senses_in}
 use Rattle.esc_simplex.specs.declared.made.Made.{Made}
 use Rattle.esc_simplex.specs.declared.made.Made.TheVariants as made
 use Rattle.esc_simplex.specs.declared.simplex.Simplex.{Simplex}
 use Rattle.esc_simplex.proofs.Gapped.{many}
 
-abbrev none : Made
+abbrev pub none : Made
 none = made.Term (Num (pos 0))
 
 abbrev pub nought : Sense
 nought = term (Num (pos 0))
 
 -- functions that agree at each place of a list map it alike
-map-places : {X Y : Type 0} (f g : X → Y) (xs : List X) (d : X)
+pub map-places : {X Y : Type 0} (f g : X → Y) (xs : List X) (d : X)
     → ((k : ℕ) → k < length xs → f (get_or xs k d) ≡ g (get_or xs k d)) → map f xs ≡ map g xs
 map-places f g [] d same = refl
 map-places f g (x ∷ xs) d same = ap₂ (λ y ys. y ∷ ys) (same 0 (omega arith))
     (map-places f g xs d (λ k h. same (suc k) (omega arith)))
 
--- ---- the entry at an older place
+-- ---- entries among others
+
+-- what is made of older unknowns means the same where these have the same terms
+pub meaning_among : (ms ns : List Made) (u : ℕ) (m : Made) → IsBuiltAt ms u m
+    → ((w : ℕ) → w < u → term_at ns w ≡ term_at ms w) → sense_of ns m ≡ sense_of ms m
+meaning_among ms ns u (made.Term t) built same = refl
+meaning_among ms ns u (made.Gap w y strict) built same =
+    ap₂ (λ s t. gap_of (record { upper = s; lower = t; strict = strict }))
+    (same w built.0.older) (same y built.1.older)
+
+-- and what stands before it stands there too
+pub built_among : (ms ns : List Made) (u : ℕ) → ((w : ℕ) (s : Sense) → w ≤ u
+    → StandsFor (senses_of ms) w s → StandsFor (senses_of ns) w s)
+    → (m : Made) → IsBuiltAt ms u m → IsBuiltAt ns u m
+built_among ms ns u among (made.Term s) b = λ k d i. let at = b k d i
+    in (at.0, at.1, among at.0 _ at.1 at.2)
+built_among ms ns u among (made.Gap w y strict) b = (
+  record {
+    older = b.0.older;
+    of = b.0.of;
+    stands = among w (term b.0.of) (omega (arith, b.0.older)) b.0.stands;
+  },
+  record {
+    older = b.1.older;
+    of = b.1.of;
+    stands = among y (term b.1.of) (omega (arith, b.1.older)) b.1.stands;
+  },
+)
 
 module _ (ms : List Made) (m : Made) where
   old_term : (u : ℕ) → u < length ms → term_at (ms ++ m ∷ []) u ≡ term_at ms u
   old_term u h = ap term_made (get_or_append_left ms (m ∷ []) none u h)
 
-  -- what is made of two older unknowns means the same
-  same_meaning : (x : Made) (u : ℕ) → IsBuiltAt ms u x → u ≤ length ms → sense_of (ms ++ m ∷ []) x
-      ≡ sense_of ms x
-  same_meaning (made.Term t) u built below = refl
-  same_meaning (made.Gap w y strict) u built below =
-      ap₂ (λ s t. gap_of (record { upper = s; lower = t; strict = strict }))
-      (old_term w (omega (arith, built.0.older, below)))
-      (old_term y (omega (arith, built.1.older, below)))
+  pub same_meaning : (x : Made) (u : ℕ) → IsBuiltAt ms u x → u ≤ length ms
+      → sense_of (ms ++ m ∷ []) x ≡ sense_of ms x
+  same_meaning x u built below = meaning_among ms (ms ++ m ∷ []) u x built
+      (λ w b. old_term w (omega (arith, b, below)))
 
   pub senses_more : ((u : ℕ) (other : Made) → u < length ms → IsBuiltAt ms u (get_or ms u other))
-      → IsBuiltAt ms (length ms) m → senses_of (ms ++ m ∷ []) ≡ senses_of ms ++ sense_of ms m ∷ []
+      → sense_of (ms ++ m ∷ []) m ≡ sense_of ms m
+      → senses_of (ms ++ m ∷ []) ≡ senses_of ms ++ sense_of ms m ∷ []
   unfolding senses_of
-  senses_more built last =
+  senses_more built same =
       map-append (sense_of (ms ++ m ∷ [])) ms (m ∷ [])
       ∙ ap₂ (λ xs x. xs ++ x ∷ [])
       (map-places (sense_of (ms ++ m ∷ [])) (sense_of ms) ms none
       (λ k h. same_meaning (get_or ms k none) k (built k none h) (omega (arith, h))))
-      (same_meaning m (length ms) last (omega arith))
+      same
 
 module _ (v : Simplex) (h : IsSimplex v) (m : Made) (t : Table) (ok : IsTable t)
     (rows : AreRowsOf (senses_in v ++ sense_of v.made m ∷ []) t)
     (marks : (u : ℕ) → IsRestricted v.tableau u ↔ IsRestricted t u) (within : IsWithin t (sample t))
-    (last : IsBuiltAt v.made (length v.made) m)
+    (same : sense_of (v.made ++ m ∷ []) m ≡ sense_of v.made m)
     (built : ((u : ℕ) (s : Sense) → StandsFor (senses_in v) u s
     → StandsFor (senses_of (v.made ++ m ∷ [])) u s)
     → IsBuiltAt (v.made ++ m ∷ []) (length v.made) m)
@@ -69,7 +92,7 @@ module _ (v : Simplex) (h : IsSimplex v) (m : Made) (t : Table) (ok : IsTable t)
   grown = record v { tableau = t; made = v.made ++ m ∷ [] }
 
   more : senses_in grown ≡ senses_in v ++ sense_of v.made m ∷ []
-  more = senses_more v.made m h.built last
+  more = senses_more v.made m h.built same
 
   sense_kept : (u : ℕ) → u < length v.made → sense_in grown u ≡ sense_in v u
   sense_kept u b = ap (λ ss. sense_at ss u) more ∙ get_or_append_left (senses_in v)
@@ -119,13 +142,6 @@ module _ (v : Simplex) (h : IsSimplex v) (m : Made) (t : Table) (ok : IsTable t)
       go (inr x) (inl y) = absurd (opaque o x.1 e w y)
       go (inr x) (inr y) = x.0 ∙ sym y.0
 
-  built_more : (u : ℕ) (x : Made) → IsBuiltAt v.made u x → IsBuiltAt (v.made ++ m ∷ []) u x
-  built_more u (made.Term s) b = λ k d i. let at = b k d i in (at.0, at.1, stands_more at.0 _ at.2)
-  built_more u (made.Gap w y strict) b = (
-    record { older = b.0.older; of = b.0.of; stands = stands_more w (term b.0.of) b.0.stands },
-    record { older = b.1.older; of = b.1.of; stands = stands_more y (term b.1.of) b.1.stands },
-  )
-
   built_then : (u : ℕ) (other : Made) → u < length (v.made ++ m ∷ [])
       → IsBuiltAt (v.made ++ m ∷ []) u (get_or (v.made ++ m ∷ []) u other)
   built_then u other b = go (cases_lt u (length v.made))
@@ -134,7 +150,8 @@ module _ (v : Simplex) (h : IsSimplex v) (m : Made) (t : Table) (ok : IsTable t)
           → IsBuiltAt (v.made ++ m ∷ []) u (get_or (v.made ++ m ∷ []) u other)
       go (inl l) = subst (IsBuiltAt (v.made ++ m ∷ []) u)
           (sym (get_or_append_left v.made (m ∷ []) other u l))
-          (built_more u (get_or v.made u other) (h.built u other l))
+          (built_among v.made (v.made ++ m ∷ []) u (λ w s b. stands_more w s)
+          (get_or v.made u other) (h.built u other l))
       go (inr g) =
           let same : length v.made ≡ u = omega (arith, g, b, length_push v.made m) in
           subst (IsBuiltAt (v.made ++ m ∷ []) u) (sym (get_or_push v.made m other u same))

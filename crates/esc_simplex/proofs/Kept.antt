@@ -1,21 +1,19 @@
 -- Other rows with the same solutions and restrictions, and one more restriction.
-use Rattle.std.proofs.Common.{◌≡◌, ◌⊎◌, inl, inr, ℕ, ◌-◌, ◌<◌, List, [], ◌∷◌, ◌++◌, length, map, get_or, refl, sym, ap, ◌∙◌, subst, arith}
+use Rattle.std.proofs.Common.{◌≡◌, ◌⊎◌, inl, inr, ℕ, List, [], ◌∷◌, ◌++◌, map, refl, sym, ap, ◌∙◌, subst, arith}
 use Rattle.std.specs.Prelude.{◌↔◌}
-use Rattle.std.specs.List.{All, Contains}
+use Rattle.std.specs.List.{Contains}
 use Rattle.std.proofs.lemmas.List.{length_push}
-use Rattle.std.proofs.lemmas.List.Elements.{All-contains, All-push, Contains-append_left, Contains-push, Contains-push_cases}
-use Rattle.esc_term.specs.declared.term.Term.{Term}
+use Rattle.std.proofs.lemmas.List.Elements.{All-push, Contains-append_left, Contains-push, Contains-push_cases}
 use Rattle.esc_rows.specs.Rows.{Point}
-use Rattle.esc_tableau.specs.Changes.{Frees, Restricts}
+use Rattle.esc_tableau.specs.Changes.{Restricts}
 use Rattle.esc_tableau.specs.Table.{Table, IsRestricted, IsSolution, IsTable}
-use Rattle.esc_simplex.specs.Senses.{AreRowsOf, term}
 use Rattle.esc_simplex.specs.Steps.{KeepsSystem}
-use Rattle.esc_simplex.specs.SimplexUndo.{AreSame, CanGoBack, HaveSameRows, freed, newest, simplex_back, simplex_undo}
+use Rattle.esc_simplex.specs.SimplexUndo.{AreSame, CanGoBack, HaveSameRows, freed, newest, simplex_back}
 use Rattle.esc_simplex.specs.SimplexLaws.{freed_less, freed_more}
-use Rattle.esc_simplex.specs.View.{IsInUse, IsSimplex, senses_in}
+use Rattle.esc_simplex.specs.View.{IsSimplex}
 use Rattle.esc_simplex.specs.declared.record.SimplexRec.TheVariants.{Restricted}
 use Rattle.esc_simplex.specs.declared.simplex.Simplex.{Simplex}
-use Rattle.esc_simplex.proofs.Lists.{newest-push, once_push, take-push}
+use Rattle.esc_simplex.proofs.Lists.{once_push, take-push}
 
 -- ---- rows with the same solutions
 

@@ -1,8 +1,12 @@
+pub mod Addends
 pub mod Alike
 pub mod Barring
 pub mod Binding
 pub mod BackIsSound
+pub mod Columns
+pub mod Equalled
 pub mod Firsts
+pub mod FormRows
 pub mod FormValue
 pub mod Fractions
 pub mod Making
@@ -20,7 +24,10 @@ pub mod Lists
 pub mod Noted
 pub mod Parting
 pub mod Points
+pub mod Put
+pub mod RowMade
 pub mod Rowed
+pub mod Zips
 pub mod Stopping
 pub mod SystemLaws
 pub mod Finding

@@ -1,15 +1,15 @@
 -- What lifting an unknown shows of the assignments that are allowed.
-use Rattle.std.proofs.Common.{◌≡◌, ℕ, ◌<◌, Bool, true, false, Result, Ok, Err, IfOk, IfErr, ℤ, pos, ◌≤ℤ◌, refl, sym, ap, ◌∙◌, subst, arith}
+use Rattle.std.proofs.Common.{ℕ, Bool, true, false, Result, Ok, Err, IfOk, IfErr, refl, subst, arith}
 use Rattle.std.specs.List.{Contains}
-use Rattle.esc_frac.specs.Rational.{ℚ, zero_ℚ, ◌≤ℚ◌, ◌<ℚ◌}
+use Rattle.esc_frac.specs.Rational.{zero_ℚ, ◌≤ℚ◌, ◌<ℚ◌}
 use Rattle.esc_frac.proofs.OrderLaws.{≤ℚ_trans, <ℚ-not}
 use Rattle.esc_tableau.specs.Run.{IsGreatest}
-use Rattle.esc_tableau.specs.Table.{Table, IsWithin, sample}
+use Rattle.esc_tableau.specs.Table.{Table, sample}
 use Rattle.esc_tableau.proofs.PivotLaws.{IsWithin-same}
 use Rattle.esc_cover.specs.Assignment.{Assignment}
 use Rattle.esc_simplex.specs.Calls.{IsAbove, LiftShows}
 use Rattle.esc_simplex.specs.Barred.{IsBarred}
-use Rattle.esc_simplex.specs.Senses.{sense_fraction, sense_value}
+use Rattle.esc_simplex.specs.Senses.{sense_value}
 use Rattle.esc_simplex.specs.Steps.{KeepsSystem, LiftEnds, MaximisingStops}
 use Rattle.esc_simplex.specs.View.{IsSimplex, sense_in, senses_in}
 use Rattle.esc_simplex.specs.declared.simplex.Simplex.{Simplex}

@@ -1,9 +1,8 @@
 -- An unknown comes into use.
-use Rattle.std.proofs.Common.{◌≡◌, ℕ, ◌-◌, ◌<◌, List, [], ◌∷◌, ◌++◌, length, map, get_or, refl, sym, ap, ◌∙◌, subst, arith}
-use Rattle.std.specs.List.{All, Contains}
-use Rattle.std.proofs.lemmas.List.{length_push, length-map, get_or-map, get_or_default}
+use Rattle.std.proofs.Common.{ℕ, ◌<◌, [], ◌∷◌, ◌++◌, length, map, get_or, refl, sym, ap, ◌∙◌, subst, arith}
+use Rattle.std.specs.List.{Contains}
+use Rattle.std.proofs.lemmas.List.{length_push, length-map, get_or-map}
 use Rattle.std.proofs.lemmas.List.Elements.{All-contains, All-push, Contains-append_left, Contains-push}
-use Rattle.esc_term.specs.declared.term.Term.{Term}
 use Rattle.esc_simplex.specs.Senses.{Sense, StandsFor, term}
 use Rattle.esc_simplex.specs.SimplexUndo.{AreSame, CanGoBack, newest, simplex_back}
 use Rattle.esc_simplex.specs.View.{IsInUse, IsSimplex, senses_in}

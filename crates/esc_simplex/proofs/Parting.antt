@@ -1,16 +1,14 @@
 -- What setting two unknowns against each other shows of the assignments that are allowed.
-use Rattle.std.proofs.Common.{◌≡◌, ◌≢◌, ◌⊎◌, inl, inr, ℕ, ◌<◌, Bool, true, false, Result, Ok, Err, IfOk, IfErr, ℤ, pos, ◌+ℤ◌, neg_ℤ, ◌≤ℤ◌, List, [], ◌∷◌, ◌++◌, length, refl, sym, ap, ap₂, ◌∙◌, subst, arith}
-use Rattle.std.specs.List.{All, Contains}
+use Rattle.std.proofs.Common.{◌≡◌, ◌≢◌, ℕ, ◌<◌, Bool, true, false, Result, Ok, Err, IfOk, ℤ, ◌+ℤ◌, neg_ℤ, ◌≤ℤ◌, length, refl, sym, ap, ◌∙◌, subst, arith}
 use Rattle.std.proofs.lemmas.Int.{ints}
-use Rattle.std.proofs.lemmas.List.{get_or-map, get_or_default, length-map}
-use Rattle.esc_term.specs.declared.term.Term.{Term}
-use Rattle.esc_frac.specs.Rational.{ℚ, ratio, zero_ℚ, ◌+ℚ◌, neg_ℚ, ◌≤ℚ◌, ◌<ℚ◌}
+use Rattle.std.proofs.lemmas.List.{length-map}
+use Rattle.esc_frac.specs.Rational.{ratio, zero_ℚ, ◌+ℚ◌, neg_ℚ, ◌≤ℚ◌}
 use Rattle.esc_frac.proofs.FieldLaws.{+ℚ-neg_ℚ}
 use Rattle.esc_frac.proofs.OrderLaws.{≤ℚ-+ℚ, ≤ℚ_refl, <ℚ-not}
-use Rattle.esc_tableau.specs.Table.{Table, sample}
+use Rattle.esc_tableau.specs.Table.{sample}
 use Rattle.esc_cover.specs.Assignment.{Assignment}
-use Rattle.esc_simplex.specs.Calls.{ExceedShows, IsForTerm, SampleIsAllowed}
-use Rattle.esc_simplex.specs.Senses.{StandsFor, sense_at, sense_fraction, sense_of, sense_value, senses_of, term, term_at, term_made}
+use Rattle.esc_simplex.specs.Calls.{ExceedShows, IsForTerm}
+use Rattle.esc_simplex.specs.Senses.{sense_of, sense_value, senses_of}
 use Rattle.esc_simplex.specs.Steps.{ExceedEnds}
 use Rattle.esc_simplex.specs.View.{Allows, IsSimplex, sense_in, senses_in}
 use Rattle.esc_simplex.specs.declared.simplex.Simplex.{Simplex}

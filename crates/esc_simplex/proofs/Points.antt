@@ -1,20 +1,20 @@
 -- The points of assignments, and what the restrictions allow.
-use Rattle.std.proofs.Common.{◌≡◌, ℕ, ◌<◌, ◌≤◌, ℤ, pos, ◌≤ℤ◌, ◌*ℤ◌, List, length, map, get_or, refl, sym, ap, ◌∙◌, subst, arith}
+use Rattle.std.proofs.Common.{◌≡◌, ℕ, ◌<◌, ℤ, pos, ◌≤ℤ◌, ◌*ℤ◌, List, length, get_or, refl, sym, ap, ◌∙◌, subst, arith}
 use Rattle.std.proofs.lemmas.Int.{ints}
 use Rattle.std.proofs.lemmas.List.{get_or-map, get_or_default, length-map}
 use Rattle.std.proofs.lemmas.List.Elements.{All-contains}
-use Rattle.std.specs.List.{All, Contains}
-use Rattle.esc_frac.specs.Rational.{ℚ, ratio, zero_ℚ, ◌≤ℚ◌}
+use Rattle.std.specs.List.{Contains}
+use Rattle.esc_frac.specs.Rational.{ratio, zero_ℚ, ◌≤ℚ◌}
 use Rattle.esc_frac.proofs.OrderLaws.{ratio-≤ℚ-ratio, num_of_zero-≤ℚ}
 use Rattle.esc_frac.specs.Integers.{*ℤ-≤ℤ, *ℤ-≤ℤ_cancel}
 use Rattle.esc_frac.specs.RationalLaws.{den_pos, ratio-cross}
 use Rattle.esc_frac.proofs.FieldLaws.{ratio-zero}
 use Rattle.esc_rows.specs.Rows.{Point}
-use Rattle.esc_tableau.specs.Table.{IsRestricted, IsSolution, IsWithin, sample, size}
+use Rattle.esc_tableau.specs.Table.{IsSolution, IsWithin, sample, size}
 use Rattle.esc_tableau.proofs.SampleLaws.{IsSolution-sample}
 use Rattle.esc_cover.specs.Assignment.{Assignment}
-use Rattle.esc_simplex.specs.Calls.{IsAbove, SampleIsAllowed}
-use Rattle.esc_simplex.specs.Senses.{IsPointOf, Sense, sense_at, sense_fraction, sense_of, sense_value, senses_of, term}
+use Rattle.esc_simplex.specs.Calls.{SampleIsAllowed}
+use Rattle.esc_simplex.specs.Senses.{IsPointOf, Sense, sense_at, sense_fraction, sense_of, sense_value, senses_of}
 use Rattle.esc_simplex.specs.View.{Allows, IsSimplex, restrictions_in, sense_in, senses_in}
 use Rattle.esc_simplex.specs.declared.simplex.Simplex.{Simplex}
 

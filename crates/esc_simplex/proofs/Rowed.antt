@@ -1,18 +1,17 @@
 -- A row is added: what the new unknown stands for, and the solutions then.
-use Rattle.std.proofs.Common.{◌≡◌, ◌⊎◌, inl, inr, ℕ, ◌+◌, ◌<◌, ◌≤◌, Bool, true, false, cond, ℤ, pos, ◌+ℤ◌, ◌-ℤ◌, ◌*ℤ◌, neg_ℤ, List, [], ◌∷◌, ◌++◌, length, get_or, refl, sym, ap, ap₂, ◌∙◌, subst, arith}
+use Rattle.std.proofs.Common.{◌≡◌, ◌⊎◌, inl, inr, ℕ, ◌<◌, ◌≤◌, Bool, true, false, cond, ℤ, pos, ◌+ℤ◌, ◌-ℤ◌, ◌*ℤ◌, neg_ℤ, List, [], ◌∷◌, ◌++◌, length, refl, sym, ap, ap₂, ◌∙◌, arith}
 use Rattle.std.proofs.lemmas.Bool.{cases_lt}
 use Rattle.std.proofs.lemmas.Int.{ints}
 use Rattle.std.proofs.lemmas.List.{get_or_append_left, get_or_push, length_push}
-use Rattle.esc_term.specs.declared.term.Term.{Term}
 use Rattle.esc_frac.specs.Rational.{ℚ, ratio, zero_ℚ, one_ℚ, ◌+ℚ◌, neg_ℚ, ◌*ℚ◌}
 use Rattle.esc_frac.proofs.FieldLaws.{+ℚ-zero, *ℚ_comm, *ℚ-one, neg_ℚ-*ℚ, neg_ℚ-zero, ratio-zero}
 use Rattle.esc_rows.specs.Rows.{Point}
 use Rattle.esc_tableau.specs.Changes.{AddsRow, parts_value}
-use Rattle.esc_tableau.specs.Table.{Table, IsSolution, IsTable, size}
+use Rattle.esc_tableau.specs.Table.{Table}
 use Rattle.esc_tableau.specs.declared.changing.Part.{Part}
-use Rattle.esc_cover.specs.Assignment.{Assignment, Gap, gap, gap_value, value}
+use Rattle.esc_cover.specs.Assignment.{Assignment, Gap, value}
 use Rattle.esc_cover.specs.Counterexample.{fraction}
-use Rattle.esc_simplex.specs.Senses.{AreRowsOf, IsPointOf, Sense, gap_of, sense_at, sense_fraction, sense_value, term}
+use Rattle.esc_simplex.specs.Senses.{AreRowsOf, IsPointOf, Sense, gap_of, sense_at, sense_fraction, term}
 use Rattle.esc_simplex.specs.Steps.{gap_constant, gap_parts}
 use Rattle.esc_simplex.proofs.Fractions.{ratio-+, ratio-neg, ratio-full}
 
@@ -73,7 +72,7 @@ rows_with_row senses old new ps k s rows adds whole = record {
 
 -- ---- the value of a gap
 
-gap_fraction : (x : Assignment) (g : Gap) → sense_fraction x (gap_of g) ≡ fraction x g.upper
+pub gap_fraction : (x : Assignment) (g : Gap) → sense_fraction x (gap_of g) ≡ fraction x g.upper
     +ℚ neg_ℚ (fraction x g.lower) +ℚ gap_constant g.strict
 gap_fraction x g =
     ap (λ z. ratio z x.denominator) (turned (value x g.upper) (value x g.lower)

@@ -1,5 +1,5 @@
 -- What a stop on a tableau is, by its step.
-use Rattle.std.proofs.Common.{◌≡◌, ◌⊎◌, inl, inr, ℕ, Option, Some, refl, sym, ap, subst, ◌∙◌}
+use Rattle.std.proofs.Common.{◌≡◌, inr, ℕ, Some, refl, sym, subst, ◌∙◌}
 use Rattle.esc_tableau.specs.Table.{Table}
 use Rattle.esc_tableau.specs.declared.answers.Step.{Step}
 use Rattle.esc_tableau.specs.declared.answers.Step.TheVariants.{Pivot}

@@ -1,5 +1,5 @@
 -- Systems the other way round.
-use Rattle.std.proofs.Common.{◌≡◌, sym}
+use Rattle.std.proofs.Common.{sym}
 use Rattle.esc_tableau.specs.Table.{Table, IsTable, IsWithin, SameSystem, sample}
 use Rattle.esc_simplex.specs.Steps.{KeepsSystem}
 

@@ -1,5 +1,5 @@
 -- Calls that begin or end at views that are the same.
-use Rattle.std.proofs.Common.{◌≡◌, List, ◌∙◌}
+use Rattle.std.proofs.Common.{List, ◌∙◌}
 use Rattle.esc_trail.specs.Undo.{Notes}
 use Rattle.esc_simplex.specs.Calls.{KeepsLists}
 use Rattle.esc_simplex.specs.SimplexUndo.{AreSame, simplex_undo}

@@ -34,6 +34,11 @@ both_gaps v u w = gap_in v u w false ∷ gap_in v w u false ∷ []
 
 -- ---- making unknowns
 
+-- the term, or one that its form is made of
+abbrev pub IsOfTerm : Term → Sense → Type 0
+IsOfTerm t (term s) = (s ≡ t) ⊎ Contains (map (λ p. p.term) (form t).parts) s
+IsOfTerm t (gap_of g) = ⊥
+
 -- unknowns came into use, for which entries that may be made were added behind all others
 pub record Makes (v w : Simplex) (May : Sense → Type 0) : Type 0 where
   pub senses : List Sense
@@ -45,6 +50,14 @@ pub record Makes (v w : Simplex) (May : Sense → Type 0) : Type 0 where
   pub bound : w.bound ≡ v.bound
   pub limit : w.limit ≡ v.limit
 
+-- the term's form is looked at first, and nothing is maximised
+abbrev pub UnknownEnds : Term → Result ℕ Stop → Type 0
+UnknownEnds t (Ok u) = AllFit (steps t)
+UnknownEnds t (Err (stop.Spill j)) = AllFit (steps t)
+UnknownEnds t (Err (stop.Form s)) = (s ≡ t) × (¬ AllFit (steps t))
+UnknownEnds t (Err (stop.Pivots j)) = ⊥
+UnknownEnds t (Err stop.Memory) = Unit {0}
+
 -- a row alone can stop it
 abbrev pub GapEnds : Result ℕ Stop → Type 0
 GapEnds (Err (stop.Pivots j)) = ⊥
@@ -52,6 +65,14 @@ GapEnds (Err (stop.Form t)) = ⊥
 GapEnds _ = Unit {0}
 
 -- ---- restricting
+
+-- the restrictions allow what they did, where none of these gaps is negative
+abbrev pub AllowsWith : Simplex → Simplex → List Gap → Type 0
+AllowsWith v w gaps = (x : Assignment) → Allows w x ↔ (Allows v x × NoneNegative x gaps)
+
+-- what is allowed did not change, or the first of two gaps must not be negative either
+abbrev pub AllowsSome : Simplex → Simplex → List Gap → Type 0
+AllowsSome v w gaps = (n : ℕ) × (n ≤ 1) × AllowsWith v w (take n gaps)
 
 -- u is restricted, last where it was not before
 abbrev pub IsRestrictedLast : Simplex → Simplex → ℕ → Type 0
@@ -72,6 +93,17 @@ AtLeastZeroEnds v w u (Ok Open) = IsRestrictedLast v w u × ((x : Assignment) ×
 AtLeastZeroEnds v w u (Ok Closed) = (w.restricted ≡ v.restricted)
     × ((x : Assignment) → IsAbove v u x → ⊥)
 AtLeastZeroEnds v w u (Err stop) = w.restricted ≡ v.restricted
+
+-- the assignment is allowed, and gives both unknowns one value
+abbrev pub IsEqualAt : Simplex → ℕ → ℕ → Assignment → Type 0
+IsEqualAt v u w x = Allows v x × (sense_value x (sense_in v u) ≡ sense_value x (sense_in v w))
+
+abbrev pub EqualEnds : Simplex → Simplex → ℕ → ℕ → Result State Stop → Type 0
+EqualEnds v w u y (Ok Open) = AllowsWith v w (both_gaps v u y)
+    × ((x : Assignment) × IsEqualAt v u y x)
+EqualEnds v w u y (Ok Closed) = AllowsSome v w (both_gaps v u y)
+    × ((x : Assignment) → IsEqualAt v u y x → ⊥)
+EqualEnds v w u y (Err stop) = AllowsSome v w (both_gaps v u y)
 
 -- some allowed assignment gives them different values, or none makes the first greater
 abbrev pub ExceedShows : Simplex → ℕ → ℕ → Bool → Type 0

@@ -3,7 +3,7 @@ use Rattle.std.specs.Prelude.{◌≡◌}
 use Rattle.esc_term.specs.declared.term.Term.{Term}
 use Rattle.esc_frac.specs.Rational.{ratio}
 use Rattle.esc_linear.specs.Forms.{form}
-use Rattle.esc_linear.specs.Laws.{value as form_value}
+use Rattle.esc_linear.specs.Laws.{form_value}
 use Rattle.esc_cover.specs.Assignment.{Assignment}
 use Rattle.esc_cover.specs.Counterexample.{fraction}
 

@@ -3,6 +3,7 @@ pub mod View
 pub mod SimplexUndo
 pub mod Barred
 pub mod Calls
+pub mod MakingInside
 pub mod SimplexLaws
 pub mod Laws
 pub mod Steps

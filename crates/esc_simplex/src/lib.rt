@@ -2,6 +2,7 @@
 //! taken back.
 #![tactic(auto)]
 
+mod adding;
 mod laws;
 mod made;
 mod maximising;

@@ -176,8 +176,8 @@ pub fn add_gap_row(
     add_row(tableau, &parts, constant_of(strict), limit)
 }
 
-// The parts of the first unknown less the second.
-fn difference(upper: Unknown, lower: Unknown, alloc: Global) -> Result<Parts, AllocError>
+/// The parts of the first unknown less the second.
+pub fn difference(upper: Unknown, lower: Unknown, alloc: Global) -> Result<Parts, AllocError>
     ensures { IfOk result (λ parts. parts ≡ gap_parts upper lower) }
 {
     let one = Frac::whole(1);
@@ -193,7 +193,8 @@ fn difference(upper: Unknown, lower: Unknown, alloc: Global) -> Result<Parts, Al
     Ok(parts)
 }
 
-fn constant_of(strict: bool) -> Frac
+/// The constant of such a row: 1 is taken away where it is strict.
+pub fn constant_of(strict: bool) -> Frac
     ensures { result ≡ gap_constant strict }
 {
     if strict {

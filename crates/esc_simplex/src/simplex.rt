@@ -7,13 +7,15 @@ ghost use Rattle.esc_linear.specs.Forms.{form};
 ghost use Rattle.esc_tableau.specs.Listed.{tabled};
 ghost use Rattle.esc_trail.specs.Undo.{Notes};
 ghost use Rattle.esc_simplex.specs.Barred.{IsBarred};
-ghost use Rattle.esc_simplex.specs.Calls.{AreRowsFor, AtLeastZeroEnds, ExceedShows, GapEnds, IsForTerm, KeepsLists, LiftShows, Makes, PartEnds, SampleIsAllowed, both_gaps, gap_in};
+ghost use Rattle.esc_simplex.specs.Calls.{AreRowsFor, AtLeastZeroEnds, EqualEnds, ExceedShows, GapEnds, IsForTerm, IsOfTerm, KeepsLists, LiftShows, Makes, PartEnds, SampleIsAllowed, UnknownEnds, both_gaps, gap_in};
+ghost use Rattle.esc_simplex.specs.MakingInside.{GapRestrictedEnds};
 ghost use Rattle.esc_simplex.specs.Senses.{gap_of, term as sense_term};
 ghost use Rattle.esc_simplex.specs.SimplexUndo.{AreSame, simplex_undo};
 ghost use Rattle.esc_simplex.specs.View.{IsInUse, IsSimplex, bound_to};
 
+use crate::adding::{form_or_stop, is_listed, is_opaque};
 use crate::made::Made;
-use crate::maximising::{add_gap_row, exceeds, lift};
+use crate::maximising::{constant_of, difference, exceeds, lift};
 use crate::record::SimplexRec;
 use crate::stop::{Parted, Stop};
 use esc_egraph::{Node, State};
@@ -108,6 +110,34 @@ impl Simplex {
         self.tableau.value(u)
     }
 
+    /// An unknown for the value of the term, and for each term that its form is made of.
+    pub fn unknown<R: Carries<SimplexRec>>(
+        &mut self,
+        term: &Term,
+        trail: &mut Trail<R>,
+    ) -> Result<Unknown, Stop>
+        requires simplex { IsSimplex self.old }
+        ensures ok { IfOk result (λ u. IsInUse self.new u (sense_term term.now)) }
+        ensures parts { OnOk result (All (λ p. (u : ℕ) × IsInUse self.new u (sense_term p.term))
+            (form term.now).parts) }
+        ensures ends { UnknownEnds term.now result }
+        ensures stop { IfErr result (IsBarred self.new (λ t. t ≡ term.now) (λ g. ⊥)) }
+        ensures makes { Makes self.old self.new (IsOfTerm term.now) }
+        ensures restricted { self.new.restricted ≡ self.old.restricted }
+        ensures simplex { IsSimplex self.new }
+        ensures undo { Notes simplex_undo R.carried trail.old.records trail.new.records self.old
+            self.new }
+    {
+        let linear = form_or_stop(term, self.alloc)?;
+        if !is_opaque(&linear, term) {
+            return self.row_unknown(term, &linear, trail);
+        }
+        match self.opaque_unknown(term, trail) {
+            Ok(unknown) => Ok(unknown),
+            Err(AllocError) => Err(Stop::Memory),
+        }
+    }
+
     /// An unknown for u - v, or for u - v - 1 where it is strict.
     pub fn gap<R: Carries<SimplexRec>>(
         &mut self,
@@ -129,11 +159,15 @@ impl Simplex {
         ensures undo { Notes simplex_undo R.carried trail.old.records trail.new.records self.old
             self.new }
     {
-        let unknown = self.make_gap(u, v, strict)?;
-        match self.list(unknown, trail) {
-            Ok(()) => Ok(unknown),
-            Err(AllocError) => Err(Stop::Memory),
-        }
+        let Ok(parts) = difference(u, v, self.alloc) else {
+            return Err(Stop::Memory);
+        };
+        let entry = Made::Gap {
+            upper: u,
+            lower: v,
+            strict,
+        };
+        self.add(entry, &parts, constant_of(strict), trail)
     }
 
     /// Makes `u` the unknown of the node.
@@ -189,6 +223,33 @@ impl Simplex {
         }
     }
 
+    /// Restricts u - v and v - u to be at least 0: Closed where the restrictions give the two one
+    /// value nowhere.
+    pub fn equal<R: Carries<SimplexRec>>(
+        &mut self,
+        u: Unknown,
+        v: Unknown,
+        trail: &mut Trail<R>,
+    ) -> Result<State, Stop>
+        requires simplex { IsSimplex self.old }
+        requires u { IsForTerm self.old u }
+        requires v { IsForTerm self.old v }
+        ensures ends { EqualEnds self.old self.new u v result }
+        ensures stop { IfErr result (IsBarred self.new (λ t. ⊥)
+            (Contains (both_gaps self.old u v))) }
+        ensures makes { Makes self.old self.new (λ s. (g : Gap)
+            × Contains (both_gaps self.old u v) g × (s ≡ gap_of g)) }
+        ensures simplex { IsSimplex self.new }
+        ensures undo { Notes simplex_undo R.carried trail.old.records trail.new.records self.old
+            self.new }
+    {
+        let state = self.restrict_gap(u, v, trail)?;
+        match state {
+            State::Closed => Ok(State::Closed),
+            State::Open => self.restrict_gap(v, u, trail),
+        }
+    }
+
     /// Whether the restrictions allow the two unknowns to have different values.
     pub fn part(&mut self, u: Unknown, v: Unknown) -> Result<Parted, Stop>
         requires simplex { IsSimplex self.old }
@@ -223,64 +284,42 @@ impl Simplex {
     {
         self.tableau.rows()
     }
-    // A row for u - v, or for u - v - 1 where it is strict, whose unknown is not in use yet.
-    fn make_gap(&mut self, u: Unknown, v: Unknown, strict: bool) -> Result<Unknown, Stop>
+
+    /// Puts rows that were copied in place of the view's own.
+    pub fn put_rows(&mut self, rows: Rows)
         requires simplex { IsSimplex self.old }
-        requires u { IsForTerm self.old u }
-        requires v { IsForTerm self.old v }
-        ensures unknown { IfOk result (λ w. w ≡ length self.old.made) }
-        ensures ok { OnOk result (self.new.made ≡ self.old.made ++ Made.Gap u v strict ∷ []) }
-        ensures err { OnErr result (self.new.made ≡ self.old.made) }
-        ensures rest { self.new ≡ record self.old {
-          tableau = self.new.tableau;
-          made
-              = self.new.made;
+        requires rows { AreRowsFor self.old rows }
+        ensures rows { self.new ≡ record self.old {
+          tableau = tabled rows;
+          made = take (size (tabled rows)) self.old.made;
         } }
         ensures simplex { IsSimplex self.new }
         ensures same { AreSame self.new self.old }
-        ensures ends { GapEnds result }
-        ensures stop { IfErr result (IsBarred self.new (λ t. ⊥) (λ g. g
-            ≡ gap_in self.old u v strict)) }
     {
-        let entry = Made::Gap {
-            upper: u,
-            lower: v,
-            strict,
-        };
-        let Ok(()) = self.made.push(entry) else {
-            return Err(Stop::Memory);
-        };
-        match add_gap_row(&mut self.tableau, u, v, strict, self.limit, self.alloc) {
-            Ok(unknown) => Ok(unknown),
-            Err(stop) => {
-                let _ = self.made.pop();
-                Err(stop)
-            }
-        }
+        self.tableau.put(rows);
+        shorten(&mut self.made, self.tableau.count());
     }
 
-    // Brings an unknown into use.
-    fn list<R: Carries<SimplexRec>>(
+    // Restricts u - v to be at least 0: Closed where the restrictions allow it nowhere.
+    fn restrict_gap<R: Carries<SimplexRec>>(
         &mut self,
         u: Unknown,
+        v: Unknown,
         trail: &mut Trail<R>,
-    ) -> Result<(), AllocError>
+    ) -> Result<State, Stop>
         requires simplex { IsSimplex self.old }
-        requires there { u < length self.old.made }
-        requires new { Contains self.old.unknowns u → ⊥ }
-        ensures ok { OnOk result (self.new ≡ record self.old {
-          unknowns = self.old.unknowns ++ u
-              ∷ [];
-        }) }
-        ensures err { OnErr result (self.new ≡ self.old) }
+        requires u { IsForTerm self.old u }
+        requires v { IsForTerm self.old v }
+        ensures ends { GapRestrictedEnds self.old self.new (gap_in self.old u v false) result }
+        ensures stop { IfErr result (IsBarred self.new (λ t. ⊥) (λ g. g
+            ≡ gap_in self.old u v false)) }
+        ensures makes { Makes self.old self.new (λ s. s ≡ gap_of (gap_in self.old u v false)) }
         ensures simplex { IsSimplex self.new }
         ensures undo { Notes simplex_undo R.carried trail.old.records trail.new.records self.old
             self.new }
     {
-        trail.reserve(1)?;
-        self.unknowns.push(u)?;
-        trail.note(R::carry(SimplexRec::Listed));
-        Ok(())
+        let gap = self.gap(u, v, false, trail)?;
+        self.at_least_zero(gap, trail)
     }
 
     // Whether the unknown is restricted.
@@ -350,19 +389,6 @@ fn are_alike(a: Frac, b: Frac) -> bool
     a == b
 }
 
-// Whether the unknown is among these.
-fn is_listed(unknowns: &[Unknown], u: Unknown) -> bool
-    ensures { IsTrue result ↔ Contains unknowns.now u }
-{
-    'unknowns: for place in 0..unknowns.len() {
-        let unknown = unknowns[place];
-        if unknown.same_as(u) {
-            return true;
-        }
-    }
-    false
-}
-
 // The unknown of the first pair with the node.
 fn unknown_in(bound: &[(Node, Unknown)], a: Node) -> Option<Unknown>
     ensures { result ≡ bound_to bound.now a }
@@ -374,4 +400,13 @@ fn unknown_in(bound: &[(Node, Unknown)], a: Node) -> Option<Unknown>
         }
     }
     None
+}
+
+// Keeps the first entries alone.
+fn shorten(made: &mut Items<Made>, count: usize)
+    ensures { made.new ≡ take count made.old }
+{
+    'made: while made.len() > count {
+        let _ = made.pop();
+    }
 }

@@ -1,11 +1,9 @@
-use Rattle.std.proofs.Common.{◌≡◌, inr, ℕ, Option, Some, None, Err, IfErr, refl, sym, ap, subst, arith}
-use Rattle.esc_frac.specs.Rational.{zero_ℚ, ◌<ℚ◌}
-use Rattle.esc_tableau.specs.Run.{GrowsAlong, IsGreatest, PeakHolds}
-use Rattle.esc_tableau.specs.Table.{sample, size}
-use Rattle.esc_tableau.specs.declared.answers.Peak.TheVariants.{NotPositive, Positive}
+use Rattle.std.proofs.Common.{inr, ℕ, IfErr, sym, subst}
+use Rattle.esc_tableau.specs.Run.{IsGreatest, PeakHolds}
+use Rattle.esc_tableau.specs.declared.answers.Peak.TheVariants.{Positive}
 use Rattle.esc_tableau.proofs.RunLaws.{err_is}
-use Rattle.esc_simplex.specs.Steps.{ExceedStops, KeepsSystem}
-use Rattle.esc_simplex.proofs.Exceeding.{keeps_system, nowhere, at_sample, along_ray, positive_ends}
+use Rattle.esc_simplex.specs.Steps.{ExceedStops}
+use Rattle.esc_simplex.proofs.Exceeding.{keeps_system, nowhere, positive_ends}
 use Rattle.esc_simplex.proofs.Keeping.{keeps_itself}
 use Rattle.esc_simplex.proofs.maximising.exceeds.Goals as goal
 

@@ -6,7 +6,6 @@ use Rattle.esc_simplex.specs.SimplexLaws.{simplex_lawful}
 use Rattle.esc_simplex.specs.View.{IsSimplex}
 use Rattle.esc_simplex.specs.declared.record.SimplexRec.TheVariants.{Listed}
 use Rattle.esc_simplex.proofs.Listing.{can_unlist, same_unlisted, simplex_listed}
-use Rattle.esc_simplex.proofs.Grown.{simplex_grown}
 use Rattle.esc_simplex.proofs.Noted.{noted_one}
 use Rattle.esc_simplex.proofs.simplex.Simplex.list.Goals as goal
 

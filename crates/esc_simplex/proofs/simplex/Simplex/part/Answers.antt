@@ -1,4 +1,4 @@
-use Rattle.std.proofs.Common.{◌≡◌, ℕ, true, false, true≢false, IfErr, sym, ◌∙◌, subst}
+use Rattle.std.proofs.Common.{true≢false, IfErr, sym, ◌∙◌, subst}
 use Rattle.std.specs.List.{Contains}
 use Rattle.esc_tableau.proofs.RunLaws.{err_is}
 use Rattle.esc_simplex.specs.Barred.{IsBarred}

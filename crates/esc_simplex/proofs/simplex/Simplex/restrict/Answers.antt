@@ -1,4 +1,4 @@
-use Rattle.std.proofs.Common.{◌<◌, refl, sym, subst}
+use Rattle.std.proofs.Common.{sym, subst}
 use Rattle.esc_trail.specs.Undo.{Notes}
 use Rattle.esc_trail.proofs.Noting.{notes_nothing, notes_one}
 use Rattle.esc_simplex.specs.SimplexUndo.{simplex_undo}

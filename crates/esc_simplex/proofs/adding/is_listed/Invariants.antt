@@ -1,5 +1,5 @@
 use Rattle.std.proofs.Common.{◌≡◌, ℕ, ◌<◌, false, get_or, ◌==◌}
-use Rattle.esc_simplex.proofs.simplex.is_listed.Given as goal
+use Rattle.esc_simplex.proofs.adding.is_listed.Given as goal
 
 -- none so far is it
 abbrev pub invariant-unknowns : goal.invariant-unknowns

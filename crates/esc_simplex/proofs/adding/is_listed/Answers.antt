@@ -1,6 +1,6 @@
-use Rattle.std.proofs.Common.{false, refl, sym, ◌∙◌, true≢false, arith}
+use Rattle.std.proofs.Common.{refl, sym, ◌∙◌, true≢false, arith}
 use Rattle.esc_simplex.proofs.Finding.{listed_at, not_listed}
-use Rattle.esc_simplex.proofs.simplex.is_listed.Goals as goal
+use Rattle.esc_simplex.proofs.adding.is_listed.Goals as goal
 
 pub returns-then-same_as : goal.returns-then-same_as
 returns-then-same_as c = (

@@ -1,1 +1,0 @@
-use Rattle.esc_simplex.proofs.maximising.maximised.Goals as goal
