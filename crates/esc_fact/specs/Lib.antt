@@ -1,0 +1,9 @@
+pub mod Base
+pub mod Depth
+pub mod DigestInside
+pub mod Equal
+pub mod Fact
+pub mod Laws
+pub mod Legal
+pub mod Log
+pub mod WalkInside
