@@ -1,0 +1,10 @@
+mod ClauseNotes
+mod Dropping
+mod Expanding
+mod ExpansionLaws
+mod Gathering
+mod Indexing
+mod Looking
+pub mod OccurrencesLevels
+pub mod Places
+mod Refining
