@@ -1,0 +1,7 @@
+mod BoundTerms
+pub mod ClearLevels
+mod HoldAll
+mod Numbers
+mod PartLevels
+pub mod TermLevels
+mod WalkLevels
