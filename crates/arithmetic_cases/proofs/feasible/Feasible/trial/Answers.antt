@@ -1,7 +1,7 @@
 use Rattle.std.proofs.Common.{ap}
 use Rattle.esc_tableau.specs.Table.{Table}
-use Rattle.esc_tableau_tests.proofs.Newest.{newest_owns}
-use Rattle.esc_tableau_tests.proofs.tests.Feasible.row_and_back.Goals as goal
+use Rattle.arithmetic_cases.proofs.Newest.{newest_owns}
+use Rattle.arithmetic_cases.proofs.feasible.Feasible.trial.Goals as goal
 
 pub drop_last-requires : goal.drop_last-requires
 drop_last-requires c =
