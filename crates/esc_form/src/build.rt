@@ -46,8 +46,10 @@ pub(crate) fn joined(
 ) -> Result<Formula, AllocError>
     ensures { IfOk result (λ f. f ≡ joined join left right) }
 {
-    let left = Boxed::new(alloc, left)?;
-    let right = Boxed::new(alloc, right)?;
+    // Both are boxed before either answer is looked at, so that no formula goes out of scope here.
+    let left = Boxed::new(alloc, left);
+    let right = Boxed::new(alloc, right);
+    let (left, right) = (left?, right?);
     Ok(match join {
         Join::Implies => Formula::Implies(left, right),
         Join::Explies => Formula::Implies(right, left),

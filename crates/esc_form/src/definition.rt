@@ -1,14 +1,16 @@
 //! Predicates that are defined.
 
-ghost use Rattle.std.specs.Prelude.{◌≡◌, IfOk};
+ghost use Rattle.std.specs.Prelude.{◌≡◌, [], ◌∷◌, IfOk};
 ghost use Rattle.esc_form.specs.Commands.{bound_variables, definition_of, predicate, rule};
+ghost use Rattle.esc_form.specs.Formulas.{holds};
+ghost use Rattle.esc_form.specs.Patterns.{only_patterns};
 
-use crate::build::{bound, holds, joined};
+use crate::build::{bound, holds};
 use crate::command::Kind;
 use crate::notes::Notes;
-use esc_names::{Binder, Join};
+use esc_names::Binder;
 use esc_term::{Formula, Head, Sym, Term, Terms};
-use sqlite_items::Items;
+use sqlite_items::{Boxed, Items};
 use std::alloc::{AllocError, Global};
 
 /// A predicate that is defined: its name, and the place where it stands.
@@ -48,7 +50,32 @@ fn bound_variables(alloc: Global, count: u64) -> Result<Terms, AllocError>
     Ok(variables)
 }
 
+/// The note that the predicate at its variables is a pattern.
+fn pattern_note(alloc: Global, named: Named, count: usize) -> Result<Notes, AllocError>
+    ensures { IfOk result (λ notes. notes ≡ only_patterns ((predicate named count ∷ []) ∷ [])) }
+{
+    let mut pattern = Items::new(alloc);
+    pattern.push(predicate(alloc, named, count)?)?;
+    let mut notes = Notes::new(alloc);
+    notes.patterns.push(pattern)?;
+    Ok(notes)
+}
+
 /// The formula that the predicate holds exactly where the body does.
+fn equivalence(
+    alloc: Global,
+    named: Named,
+    count: usize,
+    body: Formula,
+) -> Result<Formula, AllocError>
+    ensures { IfOk result (λ f. f ≡ Formula.Iff (holds (predicate named count)) body) }
+{
+    let body = Boxed::new(alloc, body)?;
+    let left = Boxed::new(alloc, holds(alloc, predicate(alloc, named, count)?))?;
+    Ok(Formula::Iff(left, body))
+}
+
+/// The equivalence, for all values of the variables.
 pub(crate) fn rule(
     alloc: Global,
     named: Named,
@@ -57,11 +84,11 @@ pub(crate) fn rule(
 ) -> Result<Formula, AllocError>
     ensures { IfOk result (λ f. f ≡ rule named count body) }
 {
-    let mut pattern = Items::new(alloc);
-    pattern.push(predicate(alloc, named, count)?)?;
-    let mut notes = Notes::new(alloc);
-    notes.patterns.push(pattern)?;
-    let left = holds(alloc, predicate(alloc, named, count)?);
-    let equivalence = joined(alloc, Join::Iff, left, body)?;
+    let equivalence = equivalence(alloc, named, count, body)?;
+    let Ok(notes) = pattern_note(alloc, named, count) else {
+        // A call, since the proof would take its forms apart at the end of the scope.
+        drop(equivalence);
+        return Err(AllocError);
+    };
     bound(alloc, Binder::Forall, count, notes, equivalence)
 }

@@ -144,7 +144,14 @@ impl<'e> FormReader<'e> {
             return Err(refusal(FormKind::WrongCount, place));
         }
         let left = self.read_formula(&parts[0])?;
-        let right = self.read_formula(&parts[1])?;
+        let right = match self.read_formula(&parts[1]) {
+            Ok(right) => right,
+            Err(stop) => {
+                // A call, since the proof would take its forms apart at the end of the scope.
+                drop(left);
+                return Err(stop);
+            }
+        };
         built(joined(self.terms.alloc(), join, left, right))
     }
 
@@ -237,7 +244,7 @@ impl<'e> FormReader<'e> {
             Some(Note::Exempt) => self.read_exempt_note(args_of(part)),
             Some(Note::Id) => Ok(Notes::new(self.terms.alloc())),
             None => {
-                self.read_formula(part)?;
+                drop(self.read_formula(part)?);
                 Err(refusal(FormKind::WrongCount, place))
             }
         }

@@ -54,6 +54,8 @@ fn read_alone(kind: Kind, place: u64, parts: &[Sexp]) -> Result<Kind, FormStop>
     ensures { Plain result (nothing_behind kind place parts.now) }
 {
     if parts.len() != 0 {
+        // A call, since the proof would take its forms apart at the end of the scope.
+        drop(kind);
         return Err(refusal(FormKind::WrongCount, place));
     }
     Ok(kind)

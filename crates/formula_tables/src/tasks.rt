@@ -36,11 +36,23 @@ fn simple(
     let Some(formula) = goal(alloc, names, part) else {
         return Vec::from_slice(alloc, NO_FORMULA);
     };
+    let line = line_of_formula(alloc, names, word, &formula);
+    drop(formula);
+    line
+}
+
+/// What becomes of a formula.
+fn line_of_formula(
+    alloc: Global,
+    names: &mut Names,
+    word: &[u8],
+    formula: &Formula,
+) -> Result<Vec<u8>, AllocError> {
     match word {
-        b"print" => printed_and_read(alloc, names, &formula),
-        b"negate" => printed(alloc, names, &negate(alloc, &formula)?),
-        b"copy" => copied(alloc, names, &formula),
-        b"ground" => printed_terms(alloc, names, &ground_terms(alloc, &formula)?),
+        b"print" => printed_and_read(alloc, names, formula),
+        b"negate" => negated(alloc, names, formula),
+        b"copy" => copied(alloc, names, formula),
+        b"ground" => grounded(alloc, names, formula),
         _ => Vec::from_slice(alloc, NO_TASK),
     }
 }
@@ -62,19 +74,42 @@ fn printed_and_read(
     formula: &Formula,
 ) -> Result<Vec<u8>, AllocError> {
     let text = printed(alloc, names, formula)?;
-    let again = readable(alloc, text.as_slice())?;
-    match goal_of_text(alloc, names, again.as_slice()) {
-        Some(again) if again == *formula => Ok(text),
-        _ => Vec::from_slice(alloc, b"reads as another formula"),
+    let readable = readable(alloc, text.as_slice())?;
+    if reads_as(alloc, names, readable.as_slice(), formula) {
+        return Ok(text);
     }
+    Vec::from_slice(alloc, b"reads as another formula")
+}
+
+/// Whether a text reads as a formula.
+fn reads_as(alloc: Global, names: &mut Names, text: &[u8], formula: &Formula) -> bool {
+    let Some(read) = goal_of_text(alloc, names, text) else {
+        return false;
+    };
+    let is_same = read == *formula;
+    drop(read);
+    is_same
+}
+
+fn negated(alloc: Global, names: &Names, formula: &Formula) -> Result<Vec<u8>, AllocError> {
+    let negation = negate(alloc, formula)?;
+    let text = printed(alloc, names, &negation);
+    drop(negation);
+    text
 }
 
 fn copied(alloc: Global, names: &Names, formula: &Formula) -> Result<Vec<u8>, AllocError> {
     let copy = formula.copy(alloc)?;
-    if copy == *formula {
-        return printed(alloc, names, &copy);
+    let is_same = copy == *formula;
+    drop(copy);
+    if is_same {
+        return printed(alloc, names, formula);
     }
     Vec::from_slice(alloc, b"differs")
+}
+
+fn grounded(alloc: Global, names: &Names, formula: &Formula) -> Result<Vec<u8>, AllocError> {
+    printed_terms(alloc, names, &ground_terms(alloc, formula)?)
 }
 
 /// The quantified part of a formula.
@@ -102,24 +137,39 @@ fn replaced(
     let Some(formula) = goal(alloc, names, part) else {
         return Vec::from_slice(alloc, NO_FORMULA);
     };
+    let line = replaced_in(alloc, names, &formula, terms);
+    drop(formula);
+    line
+}
+
+fn replaced_in(
+    alloc: Global,
+    names: &mut Names,
+    formula: &Formula,
+    terms: &Sexp,
+) -> Result<Vec<u8>, AllocError> {
     let Some(listed) = goal(alloc, names, terms) else {
         return Vec::from_slice(alloc, NO_FORMULA);
     };
-    let (Some(quant), Some(terms)) = (quantified(&formula), members(&listed)) else {
-        return Vec::from_slice(alloc, NO_TASK);
-    };
-    instance(alloc, names, quant, terms)
+    let line = replaced_by(alloc, names, formula, &listed);
+    drop(listed);
+    line
 }
 
-fn instance(
+fn replaced_by(
     alloc: Global,
     names: &Names,
-    quant: &Quant,
-    terms: &Terms,
+    formula: &Formula,
+    listed: &Formula,
 ) -> Result<Vec<u8>, AllocError> {
-    if all_ground(terms) && free_within(&quant.body, terms.len()) {
-        let body = substitute(alloc, &quant.body, terms)?;
-        return printed(alloc, names, &body);
+    let (Some(quant), Some(terms)) = (quantified(formula), members(listed)) else {
+        return Vec::from_slice(alloc, NO_TASK);
+    };
+    if !all_ground(terms) || !free_within(&quant.body, terms.len()) {
+        return Vec::from_slice(alloc, b"too few terms");
     }
-    Vec::from_slice(alloc, b"too few terms")
+    let body = substitute(alloc, &quant.body, terms)?;
+    let text = printed(alloc, names, &body);
+    drop(body);
+    text
 }

@@ -198,19 +198,19 @@ read_junction-returns-in_err-left t c =
     (second_part c.args.parts.now c.index-parts-0.result c.if-parts-ne2.false))
     (stops c.in_err-left.field-0.0 _ c.read_formula.ensures c.in_err-left.was (search rules))
 
-pub read_junction-returns-in_err-right : goal.read_junction-returns-in_err-right
-read_junction-returns-in_err-right t c =
+pub read_junction-returns-in-Err : goal.read_junction-returns-in-Err
+read_junction-returns-in-Err t c =
     rw (yes_junction c.args.place c.args.join c.args.parts.now c.index-parts-0.result
     c.index-parts-1.result c.if-parts-ne2.false c.index-parts-0.is c.index-parts-1.is)
     (next c.in_ok-left.left _ c.read_formula.ensures c.in_ok-left.was
-    (stops c.in_err-right.field-0.0 _ c.read_formula-2.ensures c.in_err-right.was (search rules)))
+    (stops c.in-Err.stop _ c.read_formula-2.ensures c.in-Err.is refl))
 
 pub read_junction-returns : goal.read_junction-returns
 read_junction-returns t c =
     rw (yes_junction c.args.place c.args.join c.args.parts.now c.index-parts-0.result
     c.index-parts-1.result c.if-parts-ne2.false c.index-parts-0.is c.index-parts-1.is)
     (next c.in_ok-left.left _ c.read_formula.ensures c.in_ok-left.was
-    (next c.in_ok-right.right _ c.read_formula-2.ensures c.in_ok-right.was
+    (next c.in-Ok.right _ c.read_formula-2.ensures c.in-Ok.is
     (plain (c.built.ensures _ c.joined.ensures))))
 
 pub read_labelling-returns-then-parts-ne2 : goal.read_labelling-returns-then-parts-ne2
