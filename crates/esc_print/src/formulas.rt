@@ -16,7 +16,6 @@ use esc_term::{Formula, Item, Quant, Sym, Term};
 
 impl<K: Sink> Printer<'_, K> {
     // Two terms behind a word.
-    #[tactic(auto, using(esc_io::proofs::PuttingLemmas::putting))]
     fn put_pair(
         &mut self,
         word: &[u8],
@@ -32,7 +31,6 @@ impl<K: Sink> Printer<'_, K> {
         self.put_last_term(right, depth)
     }
 
-    #[tactic(auto, using(esc_io::proofs::PuttingLemmas::putting))]
     fn put_next_name(&mut self, name: Sym) -> Result<(), Failed>
         ensures { Prints K.written K.faults self.old self.new result
             (blank ++ name_text self.old.names.now name) }
@@ -90,7 +88,6 @@ impl<K: Sink> Printer<'_, K> {
     }
 
     #[cycle(put_formula)]
-    #[tactic(auto, using(esc_io::proofs::PuttingLemmas::putting))]
     fn put_behind(&mut self, word: &[u8], formula: &Formula, depth: u128) -> Result<(), Failed>
         ensures { Prints K.written K.faults self.old self.new result
             (word.now ++ ((blank ++ text_of self.old.names.now formula.now depth false)
@@ -102,7 +99,6 @@ impl<K: Sink> Printer<'_, K> {
 
     // The first of two formulas behind a word.
     #[cycle(put_formula)]
-    #[tactic(auto, using(esc_io::proofs::PuttingLemmas::putting))]
     fn put_first(&mut self, word: &[u8], formula: &Formula, depth: u128) -> Result<(), Failed>
         ensures { Prints K.written K.faults self.old self.new result
             (word.now ++ (blank ++ text_of self.old.names.now formula.now depth false)) }
@@ -112,7 +108,6 @@ impl<K: Sink> Printer<'_, K> {
     }
 
     #[cycle(put_formula)]
-    #[tactic(auto, using(esc_io::proofs::PuttingLemmas::putting))]
     fn put_labelled(
         &mut self,
         word: &[u8],
@@ -130,7 +125,6 @@ impl<K: Sink> Printer<'_, K> {
     }
 
     #[cycle(put_formula)]
-    #[tactic(auto, using(esc_io::proofs::PuttingLemmas::putting))]
     fn put_parts(&mut self, word: &[u8], parts: &[Formula], depth: u128) -> Result<(), Failed>
         ensures { Prints K.written K.faults self.old self.new result
             (word.now ++ (spaced (λ part. text_of self.old.names.now part depth false) parts.now
@@ -153,7 +147,6 @@ impl<K: Sink> Printer<'_, K> {
     }
 
     #[cycle(put_formula)]
-    #[tactic(auto, using(esc_io::proofs::PuttingLemmas::putting))]
     fn put_next(&mut self, formula: &Formula, depth: u128) -> Result<(), Failed>
         ensures { Prints K.written K.faults self.old self.new result
             (blank ++ text_of self.old.names.now formula.now depth false) }
@@ -163,7 +156,6 @@ impl<K: Sink> Printer<'_, K> {
     }
 
     #[cycle(put_formula)]
-    #[tactic(auto, using(esc_io::proofs::PuttingLemmas::putting))]
     fn put_last(&mut self, formula: &Formula, depth: u128) -> Result<(), Failed>
         ensures { Prints K.written K.faults self.old self.new result
             ((blank ++ text_of self.old.names.now formula.now depth false) ++ closing) }
@@ -173,7 +165,6 @@ impl<K: Sink> Printer<'_, K> {
     }
 
     #[cycle(put_formula)]
-    #[tactic(auto, using(esc_io::proofs::PuttingLemmas::putting))]
     fn put_quantified(&mut self, word: &[u8], quant: &Quant, depth: u128) -> Result<(), Failed>
         ensures { Prints K.written K.faults self.old self.new result
             (word.now ++ quant_text self.old.names.now quant.now depth) }
@@ -193,7 +184,6 @@ impl<K: Sink> Printer<'_, K> {
     }
 
     #[cycle(put_formula)]
-    #[tactic(auto, using(esc_io::proofs::PuttingLemmas::putting))]
     fn put_inside(&mut self, quant: &Quant, depth: u128) -> Result<(), Failed>
         ensures { Prints K.written K.faults self.old self.new result
             (inside_text self.old.names.now depth quant.now.patterns quant.now.exempt

@@ -28,7 +28,6 @@ fn put_denominator<K: Sink>(value: Frac, sink: &mut K) -> Result<(), Failed>
     put_whole(value.den(), sink)
 }
 
-#[tactic(auto, using(esc_io::proofs::PuttingLemmas::putting))]
 fn put_ratio<K: Sink>(value: Frac, slash: &[u8], sink: &mut K) -> Result<(), Failed>
     ensures { Delivers K.written K.faults sink.old sink.new result
         (signed_decimal value.num ++ (slash.now ++ decimal value.den)) }

@@ -17,7 +17,6 @@ fn stands_bare(spelling: &[u8]) -> bool
 }
 
 impl<K: Sink> Printer<'_, K> {
-    #[tactic(auto, using(esc_io::proofs::PuttingLemmas::putting))]
     fn put_between(&mut self, bar: &[u8], text: &[u8]) -> Result<(), Failed>
         ensures { Prints K.written K.faults self.old self.new result
             (bar.now ++ (text.now ++ bar.now)) }

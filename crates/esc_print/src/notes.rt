@@ -13,7 +13,6 @@ use esc_term::{Term, Terms};
 
 impl<K: Sink> Printer<'_, K> {
     // A variable, behind a blank unless it is the first.
-    #[tactic(auto, using(esc_io::proofs::PuttingLemmas::putting))]
     fn put_next_bound(&mut self, depth: u128) -> Result<(), Failed>
         ensures { Prints K.written K.faults self.old self.new result
             (blank ++ bound_text depth) }
@@ -51,7 +50,6 @@ impl<K: Sink> Printer<'_, K> {
         }
     }
 
-    #[tactic(auto, using(esc_io::proofs::PuttingLemmas::putting))]
     fn put_next_pattern(&mut self, terms: &[Term], depth: u128) -> Result<(), Failed>
         ensures { Prints K.written K.faults self.old self.new result
             (blank ++ pattern_text self.old.names.now depth terms.now) }
@@ -70,7 +68,6 @@ impl<K: Sink> Printer<'_, K> {
         Ok(())
     }
 
-    #[tactic(auto, using(esc_io::proofs::PuttingLemmas::putting))]
     fn put_listed_patterns(
         &mut self,
         word: &[u8],

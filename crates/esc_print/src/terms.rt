@@ -24,7 +24,6 @@ pub(crate) fn deeper(depth: u128, count: u64) -> u128
 
 impl<K: Sink> Printer<'_, K> {
     // A number behind a sign.
-    #[tactic(auto, using(esc_io::proofs::PuttingLemmas::putting))]
     fn put_numbered(&mut self, sign: &[u8], number: u64) -> Result<(), Failed>
         ensures { Prints K.written K.faults self.old self.new result
             (sign.now ++ decimal number) }
@@ -34,7 +33,6 @@ impl<K: Sink> Printer<'_, K> {
     }
 
     // A number behind a sign, and one behind a point.
-    #[tactic(auto, using(esc_io::proofs::PuttingLemmas::putting))]
     fn put_numbers(
         &mut self,
         sign: &[u8],
@@ -113,7 +111,6 @@ impl<K: Sink> Printer<'_, K> {
     }
 
     #[cycle(put_term)]
-    #[tactic(auto, using(esc_io::proofs::PuttingLemmas::putting))]
     fn put_applied(&mut self, head: Head, args: &[Term], depth: u128) -> Result<(), Failed>
         ensures { Prints K.written K.faults self.old self.new result
             (opening ++ (head_text self.old.names.now head
@@ -126,7 +123,6 @@ impl<K: Sink> Printer<'_, K> {
 
     // Each of the terms after a blank, and the end of their list.
     #[cycle(put_term)]
-    #[tactic(auto, using(esc_io::proofs::PuttingLemmas::putting))]
     fn put_to_end(&mut self, terms: &[Term], depth: u128) -> Result<(), Failed>
         ensures { Prints K.written K.faults self.old self.new result
             (spaced (term_text self.old.names.now depth) terms.now ++ closing) }
@@ -148,7 +144,6 @@ impl<K: Sink> Printer<'_, K> {
 
     // A term after a blank.
     #[cycle(put_term)]
-    #[tactic(auto, using(esc_io::proofs::PuttingLemmas::putting))]
     pub(crate) fn put_next_term(&mut self, term: &Term, depth: u128) -> Result<(), Failed>
         ensures { Prints K.written K.faults self.old self.new result
             (blank ++ term_text self.old.names.now depth term.now) }
@@ -158,7 +153,6 @@ impl<K: Sink> Printer<'_, K> {
     }
 
     // A term after a blank, and the end of the list in which it is last.
-    #[tactic(auto, using(esc_io::proofs::PuttingLemmas::putting))]
     pub(crate) fn put_last_term(&mut self, term: &Term, depth: u128) -> Result<(), Failed>
         ensures { Prints K.written K.faults self.old self.new result
             ((blank ++ term_text self.old.names.now depth term.now) ++ closing) }
@@ -168,7 +162,6 @@ impl<K: Sink> Printer<'_, K> {
     }
 
     // A list of terms behind its word.
-    #[tactic(auto, using(esc_io::proofs::PuttingLemmas::putting))]
     pub(crate) fn put_terms(
         &mut self,
         word: &[u8],

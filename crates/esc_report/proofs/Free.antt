@@ -1,5 +1,6 @@
 -- Goals that are answered say nothing of numbers.
-use Rattle.std.proofs.Common.{◌≡◌, ℕ, Bool, true, false, not, ◌&&◌, cond, List, [], ◌∷◌, ◌++◌, map, length, refl, sym, subst, ap, ◌∙◌, inl, inr}
+use Rattle.std.proofs.Common.{◌≡◌, ℕ, Bool, true, false, not, ◌&&◌, cond, List, [], ◌∷◌, ◌++◌, map}
+use Rattle.std.proofs.Common.{length, refl, sym, subst, ap, ◌∙◌, inl, inr}
 use Rattle.std.specs.List.{Contains, filter, flat_map, list_all}
 use Rattle.std.proofs.lemmas.List.{append-nil}
 use Rattle.std.proofs.lemmas.List.Elements.{Contains-append_cases}
@@ -12,27 +13,42 @@ use Rattle.esc_term.specs.declared.term.Term.TheOpen.{Term-F}
 use Rattle.esc_term.specs.declared.term.Term.TheViews.{roll-Term, out-roll-Term}
 use Rattle.esc_term.specs.declared.term.Term.TheFolds.{ind-Term, map-Term}
 use Rattle.esc_term.specs.declared.formula.Formula.{Formula, out-Formula}
-use Rattle.esc_term.specs.declared.formula.Formula.TheVariants.{True, False, And, Or, Not, Implies, Iff, Eq, Distinct}
+use Rattle.esc_term.specs.declared.formula.Formula.TheVariants.{True, False, And, Or, Not, Implies}
+use Rattle.esc_term.specs.declared.formula.Formula.TheVariants.{Iff, Eq, Distinct}
 use Rattle.esc_term.specs.declared.formula.Formula.TheOpen.{Formula-F}
 use Rattle.esc_term.specs.declared.formula.Formula.TheViews.{roll-Formula, out-roll-Formula}
 use Rattle.esc_term.specs.declared.formula.Formula.TheFolds.{ind-Formula, map-Formula}
 use Rattle.esc_term.specs.declared.formula.Quant.{Quant}
 use Rattle.esc_term.specs.Term.{subterms, truth_term}
 use Rattle.esc_term.specs.Formula.{terms_of}
-use Rattle.esc_term.proofs.GroundTerms.{terms_of-True, terms_of-False, terms_of-And, terms_of-Or, terms_of-Not, terms_of-Implies, terms_of-Iff, terms_of-Eq, terms_of-Distinct}
-use Rattle.esc_term.proofs.Members.{Contains-none, Contains-here, Contains-later, Contains-cases, Contains-flat_map}
+use Rattle.esc_term.proofs.GroundTerms.{terms_of-True, terms_of-False, terms_of-And, terms_of-Or}
+use Rattle.esc_term.proofs.GroundTerms.{terms_of-Not, terms_of-Implies, terms_of-Iff, terms_of-Eq}
+use Rattle.esc_term.proofs.GroundTerms.{terms_of-Distinct}
+use Rattle.esc_term.proofs.Members.{Contains-none, Contains-here, Contains-later, Contains-cases}
+use Rattle.esc_term.proofs.Members.{Contains-flat_map}
 use Rattle.esc_term.proofs.TermLevels.{subterms-Var, subterms-App}
-use Rattle.esc_cover.specs.Arithmetic.{is_arithmetic, is_arithmetic_in, is_number, is_number_form, operands, operands_form, order_sides, order_sides_form, play_of}
+use Rattle.esc_cover.specs.Arithmetic.{is_arithmetic, is_arithmetic_in, is_number, is_number_form}
+use Rattle.esc_cover.specs.Arithmetic.{operands, operands_form, order_sides, order_sides_form}
+use Rattle.esc_cover.specs.Arithmetic.{play_of}
 use Rattle.esc_cover.specs.Atoms.{atoms_of, pair_equations}
 use Rattle.esc_cover.specs.Classes.{active_terms, has}
 use Rattle.esc_cover.specs.Laws.{NotRefuted, is_free_form, is_free_of_arithmetic, is_order_form}
-use Rattle.esc_cover.proofs.AtomsLevels.{atoms_of-True, atoms_of-False, atoms_of-And, atoms_of-Or, atoms_of-Not, atoms_of-Implies, atoms_of-Iff, atoms_of-Eq, atoms_of-Distinct}
+use Rattle.esc_cover.proofs.AtomsLevels.{atoms_of-True, atoms_of-False, atoms_of-And, atoms_of-Or}
+use Rattle.esc_cover.proofs.AtomsLevels.{atoms_of-Not, atoms_of-Implies, atoms_of-Iff, atoms_of-Eq}
+use Rattle.esc_cover.proofs.AtomsLevels.{atoms_of-Distinct}
 use Rattle.esc_cover.proofs.ActiveTerms.{of_active}
-use Rattle.esc_cover.proofs.TestLemmas.{all_at, all_from, and_both, and_left, and_right, neither, not_true}
+use Rattle.esc_cover.proofs.TestLemmas.{all_at, all_from, and_both, and_left, and_right, neither}
+use Rattle.esc_cover.proofs.TestLemmas.{not_true}
 use Rattle.esc_report.specs.Found.{base_of, terms_of_classes, values_of_classes}
 use Rattle.esc_report.specs.Laws.{InvalidIsNotRefuted, SupportedHasNoNumbers}
 use Rattle.esc_report.specs.Supported.{is_plain_head, is_plain_term, is_supported}
-use Rattle.esc_report.proofs.SupportedLevels.{is_plain_term-App, is_plain_term-Num, is_supported-And, is_supported-Distinct, is_supported-Eq, is_supported-Exists, is_supported-Forall, is_supported-Iff, is_supported-Implies, is_supported-LabelNeg, is_supported-LabelPos, is_supported-Less, is_supported-Not, is_supported-Or}
+use Rattle.esc_report.proofs.SupportedLevels.{is_plain_term-App, is_plain_term-Num}
+use Rattle.esc_report.proofs.SupportedLevels.{is_supported-And, is_supported-Distinct}
+use Rattle.esc_report.proofs.SupportedLevels.{is_supported-Eq, is_supported-Exists}
+use Rattle.esc_report.proofs.SupportedLevels.{is_supported-Forall, is_supported-Iff}
+use Rattle.esc_report.proofs.SupportedLevels.{is_supported-Implies, is_supported-LabelNeg}
+use Rattle.esc_report.proofs.SupportedLevels.{is_supported-LabelPos, is_supported-Less}
+use Rattle.esc_report.proofs.SupportedLevels.{is_supported-Not, is_supported-Or}
 
 -- ---- lists
 

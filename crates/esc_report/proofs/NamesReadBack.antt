@@ -97,8 +97,8 @@ unfolding is_bare_name
 read_bare names depth place text h = (
   sexp.Bare place text,
   bare depth place text (bare_text text
-      (run_of_bare_name (is_run_of is_bare_byte text) (not (is_numeral text)) (not (is_reserved text))
-      h)),
+      (run_of_bare_name (is_run_of is_bare_byte text) (not (is_numeral text))
+      (not (is_reserved text)) h)),
   token_of-Bare place text ∙ names text h,
   text_of-Bare place text,
   place_of-Bare place text,

@@ -12,12 +12,15 @@ use Rattle.esc_term.specs.declared.term.Term.TheOpen.{Term-F}
 use Rattle.esc_term.specs.declared.term.Term.TheViews.{roll-Term}
 use Rattle.esc_term.specs.declared.term.Term.TheFolds.{fold-roll-Term}
 use Rattle.esc_term.specs.declared.formula.Formula.{Formula}
-use Rattle.esc_term.specs.declared.formula.Formula.TheVariants.{True, False, And, Or, Not, Implies, Iff, Forall, Exists, Eq, Less, Distinct, LabelPos, LabelNeg}
+use Rattle.esc_term.specs.declared.formula.Formula.TheVariants.{True, False, And, Or, Not, Implies}
+use Rattle.esc_term.specs.declared.formula.Formula.TheVariants.{Iff, Forall, Exists, Eq, Less}
+use Rattle.esc_term.specs.declared.formula.Formula.TheVariants.{Distinct, LabelPos, LabelNeg}
 use Rattle.esc_term.specs.declared.formula.Formula.TheOpen.{Formula-F}
 use Rattle.esc_term.specs.declared.formula.Formula.TheViews.{roll-Formula}
 use Rattle.esc_term.specs.declared.formula.Formula.TheFolds.{fold-roll-Formula}
 use Rattle.esc_term.specs.declared.formula.Quant.{Quant}
-use Rattle.esc_report.specs.Supported.{is_plain_head, is_plain_term, is_supported, plain_term_step, supported_step}
+use Rattle.esc_report.specs.Supported.{is_plain_head, is_plain_term, is_supported, plain_term_step}
+use Rattle.esc_report.specs.Supported.{supported_step}
 
 pub is_plain_term-Num : (n : _) → is_plain_term (term.Num n) ≡ false
 unfolding is_plain_term roll-Term roll

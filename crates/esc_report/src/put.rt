@@ -39,7 +39,6 @@ fn refusal_text(why: Refusal) -> &'static [u8]
     }
 }
 
-#[tactic(auto, using(esc_io::proofs::PuttingLemmas::putting))]
 fn put_three<K: Sink>(
     first: &[u8],
     second: &[u8],
@@ -54,7 +53,6 @@ fn put_three<K: Sink>(
     printer.put_text(third)
 }
 
-#[tactic(auto, using(esc_io::proofs::PuttingLemmas::putting))]
 fn put_goal_line<K: Sink>(
     goal: u64,
     answer: &[u8],
@@ -67,7 +65,6 @@ fn put_goal_line<K: Sink>(
     printer.put_text(answer)
 }
 
-#[tactic(auto, using(esc_io::proofs::PuttingLemmas::putting))]
 fn put_place_line<K: Sink>(
     words: &[u8],
     place: u64,
@@ -89,7 +86,6 @@ fn put_why_line<K: Sink>(why: Refusal, printer: &mut Printer<'_, K>) -> Result<(
     put_three(b": ", refusal_text(why), b".\n", printer)
 }
 
-#[tactic(auto, using(esc_io::proofs::PuttingLemmas::putting))]
 fn put_refused<K: Sink>(
     words: &[u8],
     place: u64,
@@ -117,7 +113,6 @@ fn put_memory<K: Sink>(
     }
 }
 
-#[tactic(auto, using(esc_io::proofs::PuttingLemmas::putting))]
 fn put_literal_between<K: Sink>(
     before: &[u8],
     literal: &Item,
@@ -164,7 +159,6 @@ fn put_invalid_line<K: Sink>(goal: u64, printer: &mut Printer<'_, K>) -> Result<
     put_goal_line(goal, b": Invalid.\n", printer)
 }
 
-#[tactic(auto, using(esc_io::proofs::PuttingLemmas::putting))]
 fn put_invalid<K: Sink>(
     goal: u64,
     literals: &[Item],

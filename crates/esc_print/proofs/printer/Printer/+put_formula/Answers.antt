@@ -2,7 +2,7 @@ use Rattle.std.proofs.Common.{ℕ, List, ◌++◌, codes, false, subst, sym}
 use Rattle.std.specs.Prelude.{Ok, Err}
 use Rattle.esc_io.specs.declared.faults.Failed.{Failed}
 use Rattle.esc_term.specs.declared.formula.Formula.{Formula}
-use Rattle.esc_print.specs.Formulas.{inside_text, note_text, pattern_text, text_of}
+use Rattle.esc_print.specs.Formulas.{inside_text, note_text, pattern_text, quant_text, text_of}
 use Rattle.esc_print.specs.Names.{name_text}
 use Rattle.esc_print.specs.Printing.{Prints}
 use Rattle.esc_print.specs.Terms.{blank, closing, deeper, spaced, term_text}
@@ -215,3 +215,96 @@ put_formula_at-returns-in_ok-put_first-in-Iff g t c =
     (subst (λ f. Prints g.K.Sink.written g.K.Sink.faults mid new c.put_last-in-Iff.result
     ((blank ++ text mid.names.now f) ++ closing))
     c.get-in-Iff-2.ensures c.put_last-in-Iff.ensures)))
+
+pub put_behind-returns : goal.put_behind-returns
+put_behind-returns g t c =
+    let text : List (List ℕ) → List ℕ =
+    λ names. text_of names c.args.formula.now c.args.depth false in
+    Prints-named (λ names. (blank ++ text names) ++ closing) c.in_ok-put_text.ensures
+    c.put_last.ensures
+
+pub put_behind-returns-in_err-put_text : goal.put_behind-returns-in_err-put_text
+put_behind-returns-in_err-put_text g t c =
+    let text = text_of c.args.self.now.names.now c.args.formula.now c.args.depth false in
+    Prints-fails ((blank ++ text) ++ closing) c.from_residual.ensures.0 c.in_err-put_text.ensures
+
+pub put_first-returns : goal.put_first-returns
+put_first-returns g t c =
+    Prints-named (λ names. blank ++ text_of names c.args.formula.now c.args.depth false)
+    c.in_ok-put_text.ensures c.put_next.ensures
+
+pub put_first-returns-in_err-put_text : goal.put_first-returns-in_err-put_text
+put_first-returns-in_err-put_text g t c =
+    let text = text_of c.args.self.now.names.now c.args.formula.now c.args.depth false in
+    Prints-fails (blank ++ text) c.from_residual.ensures.0 c.in_err-put_text.ensures
+
+pub put_labelled-returns-in_err-put_text : goal.put_labelled-returns-in_err-put_text
+put_labelled-returns-in_err-put_text g t c =
+    let names = c.args.self.now.names.now in
+    let text = text_of names c.args.formula.now c.args.depth false in
+    Prints-fails ((blank ++ name_text names c.args.name) ++ ((blank ++ text) ++ closing))
+    c.from_residual.ensures.0 c.in_err-put_text.ensures
+
+pub put_parts-returns-in_err-put_text : goal.put_parts-returns-in_err-put_text
+put_parts-returns-in_err-put_text g t c =
+    let names = c.args.self.now.names.now in
+    Prints-fails (spaced (λ part. text_of names part c.args.depth false) c.args.parts.now
+    ++ closing)
+    c.from_residual.ensures.0 c.in_err-put_text.ensures
+
+pub put_next-returns : goal.put_next-returns
+put_next-returns g t c =
+    Prints-named (λ names. text_of names c.args.formula.now c.args.depth false)
+    c.in_ok-put_blank.ensures c.put_formula_at.ensures
+
+pub put_next-returns-in_err-put_blank : goal.put_next-returns-in_err-put_blank
+put_next-returns-in_err-put_blank g t c =
+    Prints-fails (text_of c.args.self.now.names.now c.args.formula.now c.args.depth false)
+    c.from_residual.ensures.0 c.in_err-put_blank.ensures
+
+pub put_last-returns : goal.put_last-returns
+put_last-returns g t c = Prints-then c.in_ok-put_next.ensures c.put_closing.ensures
+
+pub put_last-returns-in_err-put_next : goal.put_last-returns-in_err-put_next
+put_last-returns-in_err-put_next g t c =
+    Prints-fails closing c.from_residual.ensures.0 c.in_err-put_next.ensures
+
+pub put_quantified-returns : goal.put_quantified-returns
+put_quantified-returns g t c =
+    Prints-named (λ names. quant_text names c.args.quant.now c.args.depth)
+    c.in_ok-put_text.ensures c.put_quant.ensures
+
+pub put_quantified-returns-in_err-put_text : goal.put_quantified-returns-in_err-put_text
+put_quantified-returns-in_err-put_text g t c =
+    Prints-fails (quant_text c.args.self.now.names.now c.args.quant.now c.args.depth)
+    c.from_residual.ensures.0 c.in_err-put_text.ensures
+
+pub put_inside-returns-in_err-put_patterns : goal.put_inside-returns-in_err-put_patterns
+put_inside-returns-in_err-put_patterns g t c =
+    let names = c.args.self.now.names.now in
+    let depth = c.args.depth in
+    let body = text_of names c.args.quant.now.body depth false in
+    let exempt = c.args.quant.now.exempt in
+    let rest = note_text (codes " (NOPATS") (term_text names depth) exempt
+    ++ ((blank ++ body) ++ closing) in
+    subst (λ patterns. Prints g.K.Sink.written g.K.Sink.faults c.args.self.now
+    c.put_patterns.new.self c.from_residual.result (inside_text names depth patterns exempt body))
+    c.as_slice.ensures
+    (Prints-fails rest c.from_residual.ensures.0 c.in_err-put_patterns.ensures)
+
+pub put_inside-returns-in_err-put_exempt : goal.put_inside-returns-in_err-put_exempt
+put_inside-returns-in_err-put_exempt g t c =
+    let names = c.args.self.now.names.now in
+    let depth = c.args.depth in
+    let body = text_of names c.args.quant.now.body depth false in
+    let end = c.from_residual-in_err-put_exempt in
+    let rest = (blank ++ body) ++ closing in
+    subst (λ exempt. Prints g.K.Sink.written g.K.Sink.faults c.args.self.now c.put_exempt.new.self
+    end.result (inside_text names depth c.args.quant.now.patterns exempt body))
+    c.as_slice-2.ensures
+    (subst (λ patterns. Prints g.K.Sink.written g.K.Sink.faults c.args.self.now
+    c.put_exempt.new.self end.result
+    (inside_text names depth patterns c.as_slice-2.result.now body)) c.as_slice.ensures
+    (Prints-named (λ names. note_text (codes " (NOPATS") (term_text names depth)
+    c.as_slice-2.result.now ++ rest)
+    c.in_ok-put_patterns.ensures (Prints-fails rest end.ensures.0 c.in_err-put_exempt.ensures)))
