@@ -10,6 +10,8 @@ pub mod Values
 pub mod Settled
 pub mod Waiting
 pub mod Sides
+pub mod ByClass
+pub mod PairSteps
 pub mod Numerals
 pub mod Stepping
 pub mod Sound

@@ -1,13 +1,11 @@
 -- Forbidden pairs by their sides.
-use Rattle.std.proofs.Common.{◌≡◌, ℕ, zero, suc, ◌-◌, ◌<◌, List, [], ◌∷◌, ◌++◌, inl, inr, length, take, get_or, All, refl, ap, sym, subst, ◌∙◌, arith}
+use Rattle.std.proofs.Common.{◌≡◌, ℕ, zero, suc, ◌<◌, List, [], ◌∷◌, ◌++◌, inl, inr, All, refl, sym, subst, arith}
 use Rattle.std.specs.List.{Any}
-use Rattle.std.proofs.lemmas.List.{take_at, get_or_default, length-append}
-use Rattle.std.proofs.lemmas.List.Elements.{All-nil, All-cons, All-head, All-tail, All-get_or}
+use Rattle.std.proofs.lemmas.List.Elements.{All-nil, All-cons, All-head, All-tail}
 use Rattle.std.proofs.lemmas.Grind.{flat_map-append}
-use Rattle.esc_union.specs.Merges.{SameClass, IsClassOf}
-use Rattle.esc_egraph.specs.ApartInside.{MeetsIn}
+use Rattle.esc_union.specs.Merges.{SameClass}
 use Rattle.esc_egraph.specs.Congruence.{Joins}
-use Rattle.esc_egraph.specs.PartsInside.{sides_of}
+use Rattle.esc_egraph.specs.SidesInside.{sides_of}
 
 pub sides_of-none : sides_of [] ≡ []
 unfolding sides_of
@@ -17,31 +15,6 @@ pub sides_of-more : (ps : List (ℕ × ℕ)) (p : ℕ × ℕ) → sides_of (ps +
     ++ ((p.0, p.1) ∷ ((p.1, p.0) ∷ []))
 unfolding sides_of
 sides_of-more ps p = flat_map-append (λ (q : ℕ × ℕ). (q.0, q.1) ∷ ((q.1, q.0) ∷ [])) ps (p ∷ [])
-
--- without the last pair there are two sides fewer
-pub sides_of-fewer : (ps qs : List (ℕ × ℕ)) (p : ℕ × ℕ) (n : ℕ) → ps ≡ qs ++ (p ∷ []) → n
-    ≡ length (sides_of ps) - 2 → take n (sides_of ps) ≡ sides_of qs
-sides_of-fewer ps qs p n is n_is =
-    let more : sides_of ps ≡ sides_of qs ++ ((p.0, p.1) ∷ ((p.1, p.0) ∷ [])) = ap sides_of is
-    ∙ sides_of-more qs p in
-    let count : length (sides_of qs) ≡ n =
-    omega (
-      arith,
-      n_is,
-      ap length more,
-      length-append (sides_of qs) ((p.0, p.1)
-          ∷ ((p.1, p.0) ∷ [])),
-    ) in
-    ap (take n) more ∙ take_at (sides_of qs) ((p.0, p.1) ∷ ((p.1, p.0) ∷ [])) n count
-
-pub two_sides : (ps qs : List (ℕ × ℕ)) (p : ℕ × ℕ) → ps ≡ qs ++ (p ∷ []) → 1 < length (sides_of ps)
-two_sides ps qs p is =
-    omega (
-      arith,
-      ap length (ap sides_of is ∙ sides_of-more qs p),
-      length-append (sides_of qs)
-          ((p.0, p.1) ∷ ((p.1, p.0) ∷ [])),
-    )
 
 pub sides_low : (count : ℕ) (ps : List (ℕ × ℕ)) → All (λ p. (p.0 < count) × (p.1 < count)) ps
     → All (λ e. (e.0 < count) × (e.1 < count)) (sides_of ps)
@@ -106,30 +79,8 @@ pub joins_back : (number : ℕ → ℕ) (a b : ℕ) (ps : List (ℕ × ℕ)) →
 joins_back number a b ps (k, p, l, at, inl h) = (k, p, l, at, inr h)
 joins_back number a b ps (k, p, l, at, inr h) = (k, p, l, at, inl h)
 
--- an entry with both sides belongs to a member of the class
-pub meets_at : (number : ℕ → ℕ) (count a b : ℕ) (entries : List (ℕ × ℕ)) (members : List ℕ)
-    → IsClassOf count number a members →
-    All (λ e. (e.0 < count) × (e.1 < count)) entries →
-    Any (λ e. SameClass number e.0 a × SameClass number e.1 b) entries →
-    (k : ℕ) × (k < length members) × MeetsIn number entries (get_or members k 0) b
-meets_at number count a b entries members is low (k, e, l, at, h) =
-    let there : e.0 < count = (subst (λ (x : ℕ × ℕ). (x.0 < count) × (x.1 < count)) at
-    (All-get_or (λ (x : ℕ × ℕ). (x.0 < count) × (x.1 < count)) entries k e l low)).0 in
-    let c = (is.exact e.0).1 (there, h.0) in
-    (c.0, c.1, (k, e, l, at, (sym (get_or_default members c.0 0 e.0 c.1 ∙ c.2), h.1)))
-
--- an entry of a member has both sides
-pub meets_from : (number : ℕ → ℕ) (count a b : ℕ) (entries : List (ℕ × ℕ)) (members : List ℕ)
-    → IsClassOf count number a members →
-    (k m : ℕ) → k < length members → m ≡ get_or members k m → MeetsIn number entries m b →
-    Any (λ e. SameClass number e.0 a × SameClass number e.1 b) entries
-meets_from number count a b entries members is k m l read (j, e, jl, at, h) =
-    let c = (is.exact m).0 (k, l, sym read) in
-    (j, e, jl, at, (ap number h.0 ∙ c.1, h.1))
-
-pub sides_in : (count n : ℕ) (ps entries : List (ℕ × ℕ)) → count ≡ n → entries ≡ sides_of ps
+pub sides_in : (count n : ℕ) (ps : List (ℕ × ℕ)) → count ≡ n
     → All (λ p. (p.0 < n) × (p.1 < n)) ps →
-    All (λ e. (e.0 < count) × (e.1 < count)) entries
-sides_in count n ps entries same is all =
-    subst (λ es. All (λ (e : ℕ × ℕ). (e.0 < count) × (e.1 < count)) es) (sym is)
-    (sides_low count ps (subst (λ k. All (λ (p : ℕ × ℕ). (p.0 < k) × (p.1 < k)) ps) (sym same) all))
+    All (λ e. (e.0 < count) × (e.1 < count)) (sides_of ps)
+sides_in count n ps same all = sides_low count ps (subst (λ k. All (λ (p : ℕ × ℕ). (p.0 < k)
+    × (p.1 < k)) ps) (sym same) all)

@@ -9,7 +9,8 @@ use Rattle.esc_union.proofs.Holding.{AreMerges-count, AreMerges-fewer}
 use Rattle.esc_union.proofs.Members.{AreMerges-more}
 use Rattle.esc_union.proofs.Moved.{members_are}
 use Rattle.esc_egraph.specs.Graph.{Graph}
-use Rattle.esc_egraph.specs.PartsInside.{graph_in, sides_of, uses_of, joined_place, AreNumbered, AreSteps, IsFirst, IsSound, IsWhole, IsWithin}
+use Rattle.esc_egraph.specs.PartsInside.{graph_in, uses_of, joined_place, AreNumbered, AreSteps, IsFirst, IsSound, IsWhole, IsWithin}
+use Rattle.esc_egraph.specs.SidesInside.{IsSided}
 use Rattle.esc_egraph.specs.declared.parts.Parts.{Parts}
 use Rattle.esc_egraph.specs.declared.step.Step.{Step}
 use Rattle.esc_egraph.specs.GraphUndo.{CanGoBack, graph_back}
@@ -20,24 +21,31 @@ use Rattle.esc_egraph.proofs.Entering.{whole_joined}
 use Rattle.esc_egraph.proofs.GraphNotes.{all_back}
 use Rattle.esc_egraph.proofs.Numerals.{AreNumbered-merged, AreNumbered-made, AreNumbered-fewer, AreNumbered-parted}
 use Rattle.esc_egraph.proofs.Over.{uses_of-more, uses_of-none}
-use Rattle.esc_egraph.proofs.Sides.{sides_of-none, sides_of-fewer, two_sides}
 use Rattle.esc_egraph.proofs.Stepping.{AreSteps-back, AreSteps-made, AreSteps-more, AreSteps-none, low_back, whole_back}
 
--- what is held of fields that are the same
-pub sound_same : (p q : Parts) → IsSound p → q.nodes ≡ p.nodes → q.classes ≡ p.classes
-    → q.forbidden.items ≡ p.forbidden.items → q.sides ≡ p.sides →
+-- the sides are held otherwise
+pub sound_sided : (p q : Parts) → IsSound p → q.nodes ≡ p.nodes → q.classes ≡ p.classes
+    → q.forbidden.items ≡ p.forbidden.items → IsSided p.classes.merges p.forbidden.items q.sides →
     q.numerals.items ≡ p.numerals.items → q.uses ≡ p.uses → q.table ≡ p.table → q.steps.items
     ≡ p.steps.items → q.whole ≡ p.whole → IsSound q
-sound_same p q is nodes classes forbidden sides numerals uses table steps whole = record {
+sound_sided p q is nodes classes forbidden sides numerals uses table steps whole = record {
   graph = rw (nodes, classes, forbidden) is.graph;
   as_many = rw (nodes, classes) is.as_many;
-  sided = rw (sides, forbidden) is.sided;
+  sided = rw (classes, forbidden) sides;
   numbered = rw (nodes, classes, numerals) is.numbered;
   used = rw (uses, nodes) is.used;
   low = rw (table, nodes) is.low;
   tabled = rw (whole, nodes, classes, table) is.tabled;
   stepped = rw (nodes, classes, table, steps) is.stepped;
 }
+
+-- what is held of fields that are the same
+pub sound_same : (p q : Parts) → IsSound p → q.nodes ≡ p.nodes → q.classes ≡ p.classes
+    → q.forbidden.items ≡ p.forbidden.items → q.sides ≡ p.sides →
+    q.numerals.items ≡ p.numerals.items → q.uses ≡ p.uses → q.table ≡ p.table → q.steps.items
+    ≡ p.steps.items → q.whole ≡ p.whole → IsSound q
+sound_same p q is nodes classes forbidden sides numerals uses table steps whole =
+    sound_sided p q is nodes classes forbidden (rw sides is.sided) numerals uses table steps whole
 
 -- two classes are merged
 pub sound_merged : (p q : Parts) (m : ℕ × ℕ) (place : ℕ) (step : Step) → IsSound p → m.0
@@ -55,7 +63,8 @@ pub sound_merged : (p q : Parts) (m : ℕ × ℕ) (place : ℕ) (step : Step) �
           = length p.table;
     } →
     q.nodes ≡ p.nodes → q.classes ≡ record p.classes { merges = p.classes.merges ++ (m ∷ []) }
-    → q.forbidden.items ≡ p.forbidden.items → q.sides ≡ p.sides →
+    → q.forbidden.items ≡ p.forbidden.items →
+    IsSided (p.classes.merges ++ (m ∷ [])) p.forbidden.items q.sides →
     q.numerals.items ≡ set p.numerals.items (class_number p.classes.merges m.1) place → q.uses
     ≡ p.uses → q.table ≡ p.table →
     q.steps.items ≡ p.steps.items ++ (step ∷ []) → q.whole ≡ false → IsSound q
@@ -68,7 +77,7 @@ sound_merged p q m place step is there there_too apart place_is step_is nodes cl
         paired = is.graph.paired;
       });
       as_many = rw (nodes, classes) is.as_many;
-      sided = rw (sides, forbidden) is.sided;
+      sided = rw (classes, forbidden) sides;
       numbered = rw (nodes, classes, numerals) (AreNumbered-merged p.nodes p.classes.merges m
           p.numerals.items is.graph.merged there there_too apart is.numbered place place_is);
       used = rw (uses, nodes) is.used;
@@ -96,7 +105,7 @@ sound_entered p q e is low nodes classes forbidden sides numerals uses table ste
     = record {
       graph = rw (nodes, classes, forbidden) is.graph;
       as_many = rw (nodes, classes) is.as_many;
-      sided = rw (sides, forbidden) is.sided;
+      sided = rw (sides, classes, forbidden) is.sided;
       numbered = rw (nodes, classes, numerals) is.numbered;
       used = rw (uses, nodes) is.used;
       low = rw (table, nodes) (All-push (λ (x : ℕ × ℕ). x.1 < length p.nodes) p.table e is.low low);
@@ -119,7 +128,7 @@ pub sound_whole : (p q : Parts) → IsSound p → q.nodes ≡ p.nodes → q.clas
 sound_whole p q is nodes classes forbidden sides numerals uses table steps whole = record {
   graph = rw (nodes, classes, forbidden) is.graph;
   as_many = rw (nodes, classes) is.as_many;
-  sided = rw (sides, forbidden) is.sided;
+  sided = rw (sides, classes, forbidden) is.sided;
   numbered = rw (nodes, classes, numerals) is.numbered;
   used = rw (uses, nodes) is.used;
   low = rw (table, nodes) is.low;
@@ -168,7 +177,7 @@ sound_made p q s place step entries is terms alone step_is low whole nodes class
         paired = wider p.forbidden.items is.graph.paired;
       });
       as_many = rw (nodes, classes) (omega (arith, more, is.as_many));
-      sided = rw (sides, forbidden) is.sided;
+      sided = rw (sides, classes, forbidden) is.sided;
       numbered = rw (nodes, classes, numerals) (AreNumbered-made p.nodes s p.classes.merges
           p.numerals.items place is.graph.merged
           (members_low (length p.nodes) p.classes.merges is.graph.merged) is.numbered
@@ -270,7 +279,7 @@ sound_back_made p q n m is can fewer m_is terms nodes classes forbidden sides nu
         paired = rw count (all_back n (length p.nodes) fewer p.forbidden.items can.2);
       });
       as_many = rw (nodes, classes) (omega (arith, count, fewer, is.as_many));
-      sided = rw (sides, forbidden) is.sided;
+      sided = rw (sides, classes, forbidden) is.sided;
       numbered = rw (nodes, classes, numerals) (AreNumbered-fewer p.nodes p.classes.merges
           p.numerals.items n fewer
           (members_low n p.classes.merges (AreMerges-count (length p.nodes) n p.classes.merges
@@ -284,7 +293,8 @@ sound_back_made p q n m is can fewer m_is terms nodes classes forbidden sides nu
 pub sound_back_merged : (p q : Parts) (n m : ℕ) → IsSound p → n ≡ length p.nodes → 0
     < length p.classes.merges → m ≡ length p.classes.merges - 1 →
     q.nodes ≡ p.nodes → q.classes ≡ record p.classes { merges = take m p.classes.merges }
-    → q.forbidden.items ≡ p.forbidden.items → q.sides ≡ p.sides →
+    → q.forbidden.items ≡ p.forbidden.items →
+    IsSided (take m p.classes.merges) p.forbidden.items q.sides →
     q.numerals.items ≡ p.numerals.items → q.uses ≡ p.uses →
     IsTakenBack n m p.table p.steps.items q.table q.steps.items q.whole → IsSound q
 sound_back_merged p q n m is n_is some m_is nodes classes forbidden sides numerals uses taken =
@@ -303,7 +313,7 @@ sound_back_merged p q n m is n_is some m_is nodes classes forbidden sides numera
         paired = is.graph.paired;
       });
       as_many = rw (nodes, classes) is.as_many;
-      sided = rw (sides, forbidden) is.sided;
+      sided = rw (classes, forbidden) sides;
       numbered = rw (nodes, classes, numerals) (AreNumbered-parted p.nodes (take m p.classes.merges)
           (get_or p.classes.merges m (0, 0)) p.numerals.items
           (subst (λ ms. AreNumbered p.nodes ms p.numerals.items) split is.numbered));
@@ -317,7 +327,8 @@ sound_back_merged p q n m is n_is some m_is nodes classes forbidden sides numera
 
 pub sound_paired : (p q : Parts) → IsSound p → All (λ x. (x.0 < length p.nodes)
     × (x.1 < length p.nodes)) q.forbidden.items →
-    q.nodes ≡ p.nodes → q.classes ≡ p.classes → q.sides ≡ sides_of q.forbidden.items →
+    q.nodes ≡ p.nodes → q.classes ≡ p.classes →
+    IsSided p.classes.merges q.forbidden.items q.sides →
     q.numerals.items ≡ p.numerals.items → q.uses ≡ p.uses → q.table ≡ p.table → q.steps.items
     ≡ p.steps.items → q.whole ≡ p.whole → IsSound q
 sound_paired p q is paired nodes classes sides numerals uses table steps whole = record {
@@ -328,7 +339,7 @@ sound_paired p q is paired nodes classes sides numerals uses table steps whole =
         = paired;
   });
   as_many = rw (nodes, classes) is.as_many;
-  sided = sides;
+  sided = rw classes sides;
   numbered = rw (nodes, classes, numerals) is.numbered;
   used = rw (uses, nodes) is.used;
   low = rw (table, nodes) is.low;
@@ -339,7 +350,7 @@ sound_paired p q is paired nodes classes sides numerals uses table steps whole =
 -- ---- no nodes
 
 pub sound_empty : (q : Parts) → q.nodes ≡ [] → q.classes ≡ record { count = 0; merges = [] }
-    → q.forbidden.items ≡ [] → q.sides ≡ [] →
+    → q.forbidden.items ≡ [] → IsSided [] [] q.sides →
     q.numerals.items ≡ [] → q.uses ≡ [] → q.table ≡ [] → q.steps.items ≡ [] → IsSound q
 sound_empty q nodes classes forbidden sides numerals uses table steps = record {
   graph = record {
@@ -357,7 +368,7 @@ sound_empty q nodes classes forbidden sides numerals uses table steps = record {
         × (x.1 < length q.nodes)));
   };
   as_many = rw (nodes, classes) refl;
-  sided = rw (sides, forbidden) (sym sides_of-none);
+  sided = rw (classes, forbidden) sides;
   numbered = rw (nodes, classes, numerals) (record
       { as_many = refl; first = λ k l. absurd (omega (arith, l)) });
   used = rw (uses, nodes) (sym uses_of-none);
@@ -369,14 +380,15 @@ sound_empty q nodes classes forbidden sides numerals uses table steps = record {
 -- ---- the table is made anew
 
 pub sound_indexed : (p q : Parts) → IsSound p → q.nodes ≡ p.nodes → q.classes ≡ p.classes
-    → q.forbidden.items ≡ p.forbidden.items → q.sides ≡ p.sides →
+    → q.forbidden.items ≡ p.forbidden.items →
+    IsSided p.classes.merges p.forbidden.items q.sides →
     q.numerals.items ≡ p.numerals.items → q.uses ≡ p.uses → q.steps.items ≡ []
     → All (λ e. e.1 < length p.nodes) q.table →
     (IsTrue q.whole → IsWhole p.nodes p.classes.merges q.table) → IsSound q
 sound_indexed p q is nodes classes forbidden sides numerals uses steps low whole = record {
   graph = rw (nodes, classes, forbidden) is.graph;
   as_many = rw (nodes, classes) is.as_many;
-  sided = rw (sides, forbidden) is.sided;
+  sided = rw (classes, forbidden) sides;
   numbered = rw (nodes, classes, numerals) is.numbered;
   used = rw (uses, nodes) is.used;
   low = rw nodes low;
@@ -384,7 +396,7 @@ sound_indexed p q is nodes classes forbidden sides numerals uses steps low whole
   stepped = rw steps (AreSteps-none q.nodes q.classes.merges q.table);
 }
 
--- ---- what goes with the last node, and with the last pair
+-- ---- what goes with the last node
 
 module _ (nodes : List Shape) (uses : List (ℕ × ℕ)) (n : ℕ) (used : uses ≡ uses_of nodes) (fewer : n
     + 1 ≡ length nodes) where
@@ -407,25 +419,6 @@ module _ (nodes : List Shape) (uses : List (ℕ × ℕ)) (n : ℕ) (used : uses 
   uses_back k k_is =
       ap (take k) used ∙ uses_fewer nodes (take n nodes) (shape_at nodes n) k last_node
       (omega (arith, k_is, uses_fit, ap length used))
-
-module _ (ps sides : List (ℕ × ℕ)) (sided : sides ≡ sides_of ps) (some : 0 < length ps) where
-  last_pair : ps ≡ take (length ps - 1) ps ++ (get_or ps (length ps - 1) (0, 0) ∷ [])
-  last_pair = sym (take_all (length ps - 1 + 1) ps (omega (arith, some)))
-      ∙ take_more ps (length ps - 1) (0, 0) (omega (arith, some))
-
-  pub sides_fit : 2 ≤ length sides
-  sides_fit = omega (
-    arith,
-    ap length sided,
-    two_sides ps (take (length ps - 1) ps)
-        (get_or ps (length ps - 1) (0, 0)) last_pair,
-  )
-
-  pub sides_back : (k : ℕ) → k ≡ length sides - 2 → take k sides
-      ≡ sides_of (take (length ps - 1) ps)
-  sides_back k k_is =
-      ap (take k) sided ∙ sides_of-fewer ps (take (length ps - 1) ps)
-      (get_or ps (length ps - 1) (0, 0)) k last_pair (omega (arith, k_is, ap length sided))
 
 -- a node is made, and goes into the class of another
 pub whole_appended : (old mid p : Parts) (s : Shape) (n other : ℕ) → IsSound old → IsTrue old.whole

@@ -1,6 +1,6 @@
 -- How a graph is held.
 use Rattle.std.specs.Prelude.{ℕ, List, [], ◌∷◌, ◌++◌, ◌≡◌, ◌+◌, ◌<◌, ◌≤◌, if◌then◌else◌, nat_lt, min, length, map, take, All, IsTrue, slice_index}
-use Rattle.std.specs.List.{flat_map, AllPairs}
+use Rattle.std.specs.List.{AllPairs}
 use Rattle.esc_nodes.specs.Nodes.{Shape, shape_at}
 use Rattle.esc_nodes.specs.declared.top.Top.{Top}
 use Rattle.esc_nodes.specs.declared.top.Top.TheVariants.{Num, App}
@@ -10,17 +10,12 @@ use Rattle.esc_union.specs.Members.{members_of}
 use Rattle.esc_egraph.specs.Graph.{Graph, IsGraph}
 use Rattle.esc_egraph.specs.Congruence.{AreAlike}
 use Rattle.esc_egraph.specs.KeysInside.{key_of}
+use Rattle.esc_egraph.specs.SidesInside.{IsSided}
 use Rattle.esc_egraph.specs.declared.parts.Parts.{Parts}
 use Rattle.esc_egraph.specs.declared.step.Step.{Step}
 
 abbrev pub graph_in : Parts → Graph
 graph_in p = record { nodes = p.nodes; merges = p.classes.merges; forbidden = p.forbidden.items }
-
--- ---- forbidden pairs by their sides
-
--- each side of each pair, with the other side
-unfoldable pub sides_of : List (ℕ × ℕ) → List (ℕ × ℕ)
-sides_of = flat_map (λ p. (p.0, p.1) ∷ ((p.1, p.0) ∷ []))
 
 -- ---- numerals
 
@@ -95,7 +90,7 @@ pub record AreSteps (nodes : List Shape) (merges table : List (ℕ × ℕ)) (ste
 pub record IsSound (p : Parts) : Type 0 where
   pub graph : IsGraph (graph_in p)
   pub as_many : p.classes.count ≡ length p.nodes
-  pub sided : p.sides ≡ sides_of p.forbidden.items
+  pub sided : IsSided p.classes.merges p.forbidden.items p.sides
   pub numbered : AreNumbered p.nodes p.classes.merges p.numerals.items
   pub used : p.uses ≡ uses_of p.nodes
   pub low : All (λ e. e.1 < length p.nodes) p.table

@@ -4,6 +4,7 @@
 mod graph;
 mod key;
 mod laws;
+mod pairs;
 mod parts;
 mod record;
 mod state;

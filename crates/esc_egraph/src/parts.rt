@@ -2,12 +2,13 @@
 
 ghost use Rattle.std.specs.Prelude.{◌≡◌, ℕ, ◌+◌, ◌-◌, ◌<◌, ◌≤◌, [], ◌∷◌, ◌++◌, length, take, OnOk, OnErr, IfOk, IsTrue, ◌↔◌, ◌^◌};
 ghost use Rattle.esc_trail.specs.Undo.{Notes};
-ghost use Rattle.esc_union.specs.Merges.{SameClass, class_number};
+ghost use Rattle.esc_union.specs.Merges.{AreMerges, SameClass, class_number};
 ghost use Rattle.esc_egraph.specs.GraphUndo.{graph_undo};
 ghost use Rattle.esc_egraph.specs.Graph.{IsGraph, number_of};
 ghost use Rattle.esc_egraph.specs.Congruence.{ForcedApart, IsBroken};
 ghost use Rattle.esc_egraph.specs.PartsInside.{graph_in, IsSound, joined_place};
 ghost use Rattle.esc_egraph.specs.PassesInside.{IsUnited};
+ghost use Rattle.esc_egraph.specs.SidesInside.{IsSided};
 ghost use Rattle.esc_egraph.specs.declared.step.Step.{Step};
 
 mod apart;
@@ -16,6 +17,7 @@ mod close;
 mod find;
 mod make;
 
+use crate::pairs::Sides;
 use crate::record::{CarriesNodes, EgraphRec};
 use crate::step::Step;
 use esc_index::Index;
@@ -30,8 +32,8 @@ pub(crate) struct Parts {
     pub(crate) nodes: Nodes,
     pub(crate) classes: Partition,
     pub(crate) forbidden: Vec<(Node, Node)>,
-    /// Each side of each forbidden pair, with the other side.
-    pub(crate) sides: Index,
+    /// The forbidden pairs by the roots of their sides.
+    pub(crate) sides: Sides,
     /// For each node the place of the first numeral among its members.
     pub(crate) numerals: Vec<usize>,
     /// Each argument of each node, with the node.
@@ -52,7 +54,7 @@ impl Parts {
             nodes: Nodes::new(alloc),
             classes: Partition::new(alloc),
             forbidden: Vec::new(alloc),
-            sides: Index::new(alloc),
+            sides: Sides::new(alloc),
             numerals: Vec::new(alloc),
             uses: Index::new(alloc),
             table: Index::new(alloc),
@@ -127,7 +129,13 @@ impl Parts {
         let small = self.classes.root(from);
         let large = self.classes.root(into);
         let moved = self.classes.members(from).len();
-        self.classes.merge(from, into)?;
+        merge_sided(
+            &mut self.classes,
+            &mut self.sides,
+            self.forbidden.as_slice(),
+            from,
+            into,
+        )?;
         let all = self.classes.members(into).len();
         let place = first_place(
             self.numerals[large.index()],
@@ -192,6 +200,36 @@ impl Parts {
             self.merge(b, a, trail)
         }
     }
+}
+
+/// Makes the class of one node a part of that of another, with the sides of pairs in it.
+fn merge_sided(
+    classes: &mut Partition,
+    sides: &mut Sides,
+    pairs: &[(Node, Node)],
+    from: Node,
+    into: Node,
+) -> Result<(), AllocError>
+    requires merged { AreMerges classes.old.count classes.old.merges }
+    requires sided { IsSided classes.old.merges pairs.now sides.old }
+    requires from_is_there { from < classes.old.count }
+    requires into_is_there { into < classes.old.count }
+    requires apart { SameClass (class_number classes.old.merges) from into → ⊥ }
+    ensures ok { OnOk result (classes.new ≡ record classes.old {
+      merges = classes.old.merges
+          ++ (from, into) ∷ [];
+    }) }
+    ensures sided { OnOk result (IsSided (classes.old.merges ++ (from, into) ∷ []) pairs.now
+        sides.new) }
+    ensures err { OnErr result (classes.new ≡ classes.old) }
+    ensures kept { OnErr result (IsSided classes.old.merges pairs.now sides.new) }
+{
+    sides.merge(classes, pairs, from, into)?;
+    if let Err(error) = classes.merge(from, into) {
+        sides.back_to(classes.merges().len(), pairs.len());
+        return Err(error);
+    }
+    Ok(())
 }
 
 /// The place of the first numeral among the members of a class and those of another after them.

@@ -8,7 +8,6 @@ ghost use Rattle.esc_egraph.specs.Congruence.{IsMet};
 use crate::graph::EGraph;
 use crate::record::{CarriesNodes, EgraphRec};
 use crate::state::State;
-use esc_index::Index;
 use esc_trail::Trail;
 use esc_union::Node;
 use std::alloc::AllocError;
@@ -61,24 +60,13 @@ impl EGraph {
     {
         self.parts.forbidden.reserve(1)?;
         trail.reserve(1)?;
-        push_sides(&mut self.parts.sides, a, b)?;
+        self.parts
+            .sides
+            .push(&self.parts.classes, self.parts.forbidden.as_slice(), a, b)?;
         trail.note(R::carry_node(EgraphRec::Forbidden));
         match self.parts.forbidden.push((a, b)) {
             Ok(()) => Ok(()),
             Err(_) => unreachable!(),
         }
     }
-}
-
-/// Adds each side of a pair with the other side.
-fn push_sides(sides: &mut Index, a: Node, b: Node) -> Result<(), AllocError>
-    ensures ok { OnOk result (sides.new ≡ sides.old ++ (a, b) ∷ ((b, a) ∷ [])) }
-    ensures err { OnErr result (sides.new ≡ sides.old) }
-{
-    sides.push(a.index(), b)?;
-    if let Err(error) = sides.push(b.index(), a) {
-        sides.pop();
-        return Err(error);
-    }
-    Ok(())
 }

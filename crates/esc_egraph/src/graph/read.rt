@@ -29,6 +29,16 @@ impl EGraph {
         self.parts.classes.members(a)
     }
 
+    /// The number of a node's class, which is one of its nodes.
+    pub fn class_number(&self, a: Node) -> Node
+        requires { a < length self.now.nodes }
+        ensures number { result ≡ number_of self.now a }
+        ensures there { result < length self.now.nodes }
+        ensures own { number_of self.now result ≡ result }
+    {
+        self.parts.classes.root(a)
+    }
+
     /// The pairs whose classes were merged, in order.
     pub fn merges(&self) -> &[(Node, Node)]
         ensures is { result.now ≡ self.now.merges }

@@ -22,8 +22,7 @@ impl Parts {
         self.has_forbidden_between(a, b) || self.has_numerals_between(a, b)
     }
 
-    /// Whether a forbidden pair has one side in each of two classes: by the pairs where they are
-    /// fewer than the members of either class.
+    /// Whether a forbidden pair has one side in each of two classes.
     fn has_forbidden_between(&self, a: Node, b: Node) -> bool
         requires sound { IsSound self.now }
         requires a_is_there { a < length self.now.nodes }
@@ -31,26 +30,9 @@ impl Parts {
         ensures { IsTrue result ↔ Any (Joins (class_number self.now.classes.merges) a b)
             self.now.forbidden.items }
     {
-        let pairs = self.forbidden.as_slice();
-        let fewest = self
-            .classes
-            .members(a)
-            .len()
-            .min(self.classes.members(b).len());
-        if pairs.len() <= fewest {
-            return any_joins(&self.classes, pairs, a, b);
+        if !self.sides.whole {
+            return any_joins(&self.classes, self.forbidden.as_slice(), a, b);
         }
-        self.has_side_of_members(a, b)
-    }
-
-    /// The same, by the members of the smaller class.
-    fn has_side_of_members(&self, a: Node, b: Node) -> bool
-        requires sound { IsSound self.now }
-        requires a_is_there { a < length self.now.nodes }
-        requires b_is_there { b < length self.now.nodes }
-        ensures { IsTrue result ↔ Any (Joins (class_number self.now.classes.merges) a b)
-            self.now.forbidden.items }
-    {
         if self.classes.members(a).len() <= self.classes.members(b).len() {
             self.has_side_in(a, b)
         } else {
@@ -58,21 +40,17 @@ impl Parts {
         }
     }
 
-    /// The same, by the pairs of the first class.
+    /// The same, by the sides in the first class.
     fn has_side_in(&self, a: Node, b: Node) -> bool
         requires sound { IsSound self.now }
+        requires whole { IsTrue self.now.sides.whole }
         requires a_is_there { a < length self.now.nodes }
         requires b_is_there { b < length self.now.nodes }
-        ensures { IsTrue result ↔ Any (λ e. SameClass (class_number self.now.classes.merges) e.0 a
-            × SameClass (class_number self.now.classes.merges) e.1 b) self.now.sides }
+        ensures { IsTrue result ↔ Any (Joins (class_number self.now.classes.merges) a b)
+            self.now.forbidden.items }
     {
-        let members = self.classes.members(a);
-        'each: for member in members {
-            if meets(&self.sides, &self.classes, *member, b) {
-                return true;
-            }
-        }
-        false
+        let root = self.classes.root(a);
+        meets(&self.sides.entries, &self.classes, root, b)
     }
 
     /// A numeral of a class.
@@ -153,14 +131,14 @@ fn joins(classes: &Partition, pair: (Node, Node), a: Node, b: Node) -> bool
 }
 
 /// Whether a node has an entry whose node stands in the class of another.
-fn meets(sides: &Index, classes: &Partition, node: Node, other: Node) -> bool
-    requires low { All (λ e. e.1 < classes.now.count) sides.now }
+fn meets(entries: &Index, classes: &Partition, node: Node, other: Node) -> bool
+    requires low { All (λ e. e.1 < classes.now.count) entries.now }
     requires other_is_there { other < classes.now.count }
-    ensures { IsTrue result ↔ MeetsIn (class_number classes.now.merges) sides.now node other }
+    ensures { IsTrue result ↔ MeetsIn (class_number classes.now.merges) entries.now node other }
 {
-    let mut end = sides.len();
-    'places: while let Some(place) = sides.last_before(node.index(), end) {
-        if classes.same(sides.node(place), other) {
+    let mut end = entries.len();
+    'places: while let Some(place) = entries.last_before(node.index(), end) {
+        if classes.same(entries.node(place), other) {
             return true;
         }
         end = place;

@@ -42,6 +42,7 @@ impl Parts {
     {
         self.classes.unmerge();
         let (nodes, merges) = (self.nodes.count(), self.classes.merges().len());
+        self.sides.back_to(merges, self.forbidden.len());
         self.whole = take_back(nodes, merges, &mut self.table, &mut self.steps);
     }
 
@@ -53,16 +54,19 @@ impl Parts {
         ensures back { graph_in self.new ≡ graph_back (graph_in self.old) Forbidden }
     {
         let _ = self.forbidden.pop();
-        self.sides.truncate(self.sides.len() - 2);
+        let (merges, pairs) = (self.classes.merges().len(), self.forbidden.len());
+        self.sides.back_to(merges, pairs);
     }
 
-    /// Enters the nodes into the table anew, where changes were taken back in another order.
+    /// Enters the sides of pairs and the nodes into their tables anew, where changes were taken
+    /// back in another order.
     pub(crate) fn index(&mut self) -> Result<(), AllocError>
         requires { IsSound self.old }
         ensures sound { IsSound self.new }
         ensures graph { graph_in self.new ≡ graph_in self.old }
         ensures whole { OnOk result (IsTrue self.new.whole) }
     {
+        self.sides.index(&self.classes, self.forbidden.as_slice())?;
         if self.whole {
             return Ok(());
         }

@@ -1,17 +1,28 @@
-use Rattle.std.proofs.Common.{◌≡◌, ◌+◌, ◌-◌, ◌<◌, [], ◌∷◌, ◌++◌, length, get_or, set, refl, ap, arith, ◌∙◌}
+use Rattle.std.proofs.Common.{◌≡◌, ◌+◌, ◌-◌, ◌<◌, [], ◌∷◌, ◌++◌, length, get_or, set, refl, ap, sym, subst, arith, ◌∙◌}
 use Rattle.std.proofs.lemmas.Grind.{common_steps}
 use Rattle.std.proofs.lemmas.List.{get_or_default}
-use Rattle.esc_union.specs.Merges.{Merged, class_number}
+use Rattle.esc_union.specs.Merges.{AreMerges, Merged, class_number}
 use Rattle.esc_union.specs.Members.{members_of}
+use Rattle.esc_egraph.specs.SidesInside.{IsSided}
 use Rattle.esc_egraph.proofs.Numerals.{members_then, placed}
-use Rattle.esc_egraph.proofs.Sound.{sound_merged, sound_same}
+use Rattle.esc_egraph.proofs.Sound.{sound_merged, sound_sided}
 use Rattle.esc_egraph.proofs.parts.Parts.merge_classes.Goals as goal
 use Rattle.esc_egraph.proofs.parts.Parts.merge_classes.Goals.{After-members-all}
 
-pub returns-in_err-merge-clause-sound : goal.returns-in_err-merge-clause-sound
-returns-in_err-merge-clause-sound c =
-    sound_same c.args.self.now _ c.requires.sound refl c.in_err-merge.ensures.err refl refl refl
-    refl refl c.reserve.ensures.items refl
+pub merge_sided-requires-clause-sided : goal.merge_sided-requires-clause-sided
+merge_sided-requires-clause-sided c = rw c.as_slice.ensures.value c.requires.sound.sided
+
+pub merge_sided-requires-clause-merged : goal.merge_sided-requires-clause-merged
+merge_sided-requires-clause-merged c =
+    subst (λ n. AreMerges n c.args.self.now.classes.merges) (sym c.requires.sound.as_many)
+    c.requires.sound.graph.merged
+
+pub returns-in_err-merge_sided-clause-sound : goal.returns-in_err-merge_sided-clause-sound
+returns-in_err-merge_sided-clause-sound c =
+    sound_sided c.args.self.now _ c.requires.sound refl c.in_err-merge_sided.ensures.err refl
+    (subst (λ ps. IsSided c.args.self.now.classes.merges ps c.merge_sided.new.sides)
+    c.as_slice.ensures.value c.in_err-merge_sided.ensures.kept) refl refl refl
+    c.reserve.ensures.items refl
 
 more : (c : After-members-all) → length c.members-all.result.now
     ≡ length (members_of c.args.self.now.classes.merges
@@ -22,7 +33,7 @@ more c =
     c.requires.sound.graph.merged c.requires.from_is_there c.requires.into_is_there c.requires.apart
     (length c.members-all.result.now) 0 (length c.members-moved.result.now)
     (ap length c.members-all.ensures.list ∙ ap (λ (h : Merged). length
-    (members_of h.merges (class_number h.merges c.args.into))) c.in_ok-merge.ensures.ok)
+    (members_of h.merges (class_number h.merges c.args.into))) c.in_ok-merge_sided.ensures.ok)
     (ap length c.members-moved.ensures.list)
 
 pub overflow_sub-all : goal.overflow_sub-all
@@ -74,6 +85,8 @@ returns-clause-sound c =
     c.in_ok-step.step c.requires.sound
     c.requires.from_is_there c.requires.into_is_there c.requires.apart
     (placed c.first_place-place.result _ _ _ _ _ _ _ _ c.first_place-place.ensures e1 e2 e3 e4)
-    c.in_ok-step.ensures refl c.in_ok-merge.ensures.ok refl refl
+    c.in_ok-step.ensures refl c.in_ok-merge_sided.ensures.ok refl
+    (subst (λ ps. IsSided (c.args.self.now.classes.merges ++ ((c.args.from, c.args.into) ∷ [])) ps
+    c.merge_sided.new.sides) c.as_slice.ensures.value c.in_ok-merge_sided.ensures.sided)
     (ap (λ i. set c.args.self.now.numerals.items i c.first_place-place.result) (c.index-5.ensures
     ∙ large)) refl refl steps refl

@@ -5,10 +5,10 @@ use Rattle.esc_egraph.proofs.parts.apart.meets.Given as goal
 
 abbrev pub invariant-places : goal.invariant-places
 invariant-places l = record {
-  bound : l.end ≤ length l.sides;
-  has : l.end < length l.sides → (entry_at l.sides l.end).0 ≡ l.node;
-  passed : (p : ℕ) → l.end ≤ p → p < length l.sides → (entry_at l.sides p).0 ≡ l.node →
-      SameClass (class_number l.classes.merges) (entry_at l.sides p).1 l.other → ⊥;
+  bound : l.end ≤ length l.entries;
+  has : l.end < length l.entries → (entry_at l.entries l.end).0 ≡ l.node;
+  passed : (p : ℕ) → l.end ≤ p → p < length l.entries → (entry_at l.entries p).0 ≡ l.node →
+      SameClass (class_number l.classes.merges) (entry_at l.entries p).1 l.other → ⊥;
 }
 
 abbrev pub decreases-places : goal.decreases-places
