@@ -19,3 +19,4 @@ pub mod SumLaws
 pub mod WithinLaws
 pub mod AddLaws
 pub mod DropLaws
+pub mod Indexed

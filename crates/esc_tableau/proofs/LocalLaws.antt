@@ -5,7 +5,7 @@ use Rattle.std.proofs.lemmas.List.{length-map, get_or-map}
 use Rattle.esc_frac.specs.Rational.{ℚ, ◌+ℚ◌, ◌*ℚ◌}
 use Rattle.esc_rows.specs.Rows.{Point, combination}
 use Rattle.esc_tableau.specs.Laws.{RestrictedAreThere, SampledOwnsRow, SolutionsAreLocal}
-use Rattle.esc_tableau.specs.Table.{Table, IsTable, IsSolution, OwnsRow, row_of, sample, nobody, unknowns, size, owner, column, row_entries, row_constant}
+use Rattle.esc_tableau.specs.Table.{OwnsRow, row_of, nobody, unknowns, size, owner, column, row_entries, row_constant}
 use Rattle.esc_tableau.proofs.MoveLaws.{RestrictedRow, RestrictedColumn, restricted_place}
 use Rattle.esc_tableau.proofs.SampleLaws.{sample-no_row}
 use Rattle.esc_tableau.proofs.Places.{owner_below, column_below}

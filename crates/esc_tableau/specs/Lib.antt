@@ -1,6 +1,7 @@
 pub mod BoundInside
 pub mod Changes
 pub mod Grid
+pub mod IndexInside
 pub mod Laws
 pub mod Listed
 pub mod Rule

@@ -6,7 +6,8 @@ ghost use Rattle.esc_tableau.specs.Listed.{tabled, restricted_in};
 ghost use Rattle.esc_tableau.specs.Table.{IsTable, OwnsRow, size, row_of, place_of};
 
 use crate::grid::Grid;
-use crate::owner::{Owner, place_of};
+use crate::index::Place;
+use crate::owner::Owner;
 use crate::{FracLists, Fracs, RowStop, Rows, Unknown, Unknowns};
 use esc_frac::{Frac, Spill};
 use esc_rows::{add_multiple, reserve_entries, step, widen};
@@ -39,13 +40,16 @@ impl Grid {
         ensures err { OnErr result (table_of self.new ≡ table_of self.old) }
     {
         let unknown = Unknown::numbered(self.count());
+        self.reserve_index()?;
         self.columns.reserve(1)?;
         reserve_entries(&mut self.entries)?;
         widen(&mut self.entries);
+        let column = self.columns.len();
         self.columns.push_reserved(Owner {
             unknown,
             restricted: false,
         });
+        self.index.note(unknown, Place::Column(column));
         Ok(unknown)
     }
 
@@ -66,10 +70,12 @@ impl Grid {
             return Err(RowStop::Memory);
         }
         let Draft { entries, constant } = draft;
+        let row = self.owners.len();
         self.owners.push_reserved(Owner {
             unknown,
             restricted: false,
         });
+        self.index.note(unknown, Place::Row(row));
         self.entries.push_reserved(entries);
         self.constants.push_reserved(constant);
         Ok(unknown)
@@ -83,6 +89,7 @@ impl Grid {
         ensures constants { OnOk result (vec_len self.new.constants
             < vec_capacity self.new.constants) }
     {
+        self.reserve_index()?;
         self.owners.reserve(1)?;
         self.entries.reserve(1)?;
         self.constants.reserve(1)?;
@@ -130,12 +137,12 @@ impl Grid {
         ensures ok { IfOk result (λ k. sum entries.new k
             ≡ plus_part (table_of self.now) (sum entries.old held) part) }
     {
-        let column = place_of(&self.columns, part.unknown);
+        let column = self.column_place(part.unknown);
         if column < self.columns.len() {
             entries[column] = Frac::add(entries[column], part.factor)?;
             return Ok(held);
         }
-        let row = place_of(&self.owners, part.unknown);
+        let row = self.row_place(part.unknown);
         self.add_owner(entries, held, part.factor, row)
     }
 
@@ -166,10 +173,11 @@ impl Grid {
         ensures { table_of self.new ≡ without_row (table_of self.old)
             (row_of (table_of self.old) (size (table_of self.old) - 1)) }
     {
-        let row = place_of(&self.owners, Unknown::numbered(self.count() - 1));
+        let row = self.row_place(Unknown::numbered(self.count() - 1));
         let _owner = self.owners.remove(row);
         let _entries = self.entries.remove(row);
         let _constant = self.constants.remove(row);
+        self.index.remove_row(row);
     }
 
     /// A copy of the rows.
@@ -200,16 +208,17 @@ impl Grid {
         requires table { IsTable (table_of self.old) }
         ensures { table_of self.new ≡ with_mark (table_of self.old) unknown restricted }
     {
-        mark_in(&mut self.owners, unknown, restricted);
-        mark_in(&mut self.columns, unknown, restricted);
+        let row = self.row_place(unknown);
+        let column = self.column_place(unknown);
+        mark_at(&mut self.owners, row, unknown, restricted);
+        mark_at(&mut self.columns, column, unknown, restricted);
     }
 }
 
-// Marks the unknown's first place, where it has one.
-fn mark_in(owners: &mut [Owner], unknown: Unknown, restricted: bool)
-    ensures { owners.new ≡ marked owners.old unknown restricted (place_of owners.old unknown) }
+// Marks the unknown at its place, where it has one.
+fn mark_at(owners: &mut [Owner], place: usize, unknown: Unknown, restricted: bool)
+    ensures { owners.new ≡ marked owners.old unknown restricted place }
 {
-    let place = place_of(owners, unknown);
     if place < owners.len() {
         owners[place] = Owner {
             unknown,

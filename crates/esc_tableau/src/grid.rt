@@ -1,99 +1,18 @@
-//! The lists of a tableau, seen as they are.
-ghost use Rattle.std.specs.Prelude.{◌≡◌, ◌≢◌, ◌↔◌, ◌<◌, length, pos, IsOk, OnOk, OnErr, IfErr};
-ghost use Rattle.esc_rows.specs.Steps.{PivotFits};
-ghost use Rattle.esc_tableau.specs.Table.{IsTable, SameSystem, OwnsRow, OwnsColumn, size, sample, row_of, column_of, entry, pivoted};
-ghost use Rattle.esc_tableau.specs.Grid.{table_of};
+//! The lists of a tableau.
+ghost use Rattle.esc_tableau.specs.IndexInside.{IsIndexed};
 
-use crate::owner::{Owner, place_of};
-use crate::{Step, Unknown};
-use esc_frac::{Frac, Spill};
-use esc_rows::{try_pivot, write_pivot};
-use std::alloc::Global;
-use std::mem;
+use crate::index::Index;
+use crate::owner::Owner;
+use esc_frac::Frac;
 
-/// Each row has its owner, an entry for each of the columns and a constant.
+/// Each row has its owner, an entry for each of the columns and a constant. The index notes where
+/// unknowns stand.
 #[derive(Drop)]
 pub struct Grid {
     pub owners: Vec<Owner>,
     pub columns: Vec<Owner>,
     pub entries: Vec<Vec<Frac>>,
     pub constants: Vec<Frac>,
-}
-
-impl Grid {
-    /// How many unknowns there are.
-    pub fn count(&self) -> usize
-        ensures { result ≡ size (table_of self.now) }
-    {
-        self.owners.len() + self.columns.len()
-    }
-
-    /// The unknown's value in the sample.
-    pub fn value(&self, unknown: Unknown) -> Frac
-        requires { IsTable (table_of self.now) }
-        ensures { result ≡ sample (table_of self.now) unknown }
-    {
-        let row = place_of(&self.owners, unknown);
-        if row < self.owners.len() {
-            self.constants[row]
-        } else {
-            Frac::whole(0)
-        }
-    }
-
-    /// The entry of a row at a column.
-    pub fn entry(&self, row: usize, column: usize) -> Frac
-        requires table { IsTable (table_of self.now) }
-        requires row { row < length self.now.owners.items }
-        requires column { column < length self.now.columns.items }
-        ensures { result ≡ entry (table_of self.now) row column }
-    {
-        self.entries[row][column]
-    }
-
-    /// Solves a row for the unknown of a column, which becomes its owner, and takes that unknown
-    /// out of the other rows. All steps are tried before the rows change.
-    pub fn pivot(&mut self, row: usize, column: usize, alloc: Global) -> Result<(), Spill>
-        requires table { IsTable (table_of self.old) }
-        requires row { row < length self.old.owners.items }
-        requires column { column < length self.old.columns.items }
-        requires nonzero { (entry (table_of self.old) row column).num ≢ pos 0 }
-        ensures fits { IsOk result ↔ PivotFits (table_of self.old).entries
-            (table_of self.old).constants row column }
-        ensures ok { OnOk result (table_of self.new ≡ pivoted (table_of self.old) row column) }
-        ensures err { OnErr result (table_of self.new ≡ table_of self.old) }
-        ensures table { IsTable (table_of self.new) }
-        ensures same { SameSystem (table_of self.old) (table_of self.new) }
-    {
-        try_pivot(&self.entries, &self.constants, row, column)?;
-        write_pivot(&mut self.entries, &mut self.constants, row, column, alloc);
-        mem::swap(&mut self.owners[row], &mut self.columns[column]);
-        Ok(())
-    }
-
-    /// The same by the unknowns: `row` owns a row, and `column` becomes its owner.
-    pub fn exchange(&mut self, row: Unknown, column: Unknown, alloc: Global) -> Result<(), Step>
-        requires table { IsTable (table_of self.old) }
-        requires row { OwnsRow (table_of self.old) row }
-        requires column { OwnsColumn (table_of self.old) column }
-        requires nonzero { (entry (table_of self.old) (row_of (table_of self.old) row)
-            (column_of (table_of self.old) column)).num ≢ pos 0 }
-        ensures fits { IsOk result ↔ PivotFits (table_of self.old).entries
-            (table_of self.old).constants (row_of (table_of self.old) row)
-            (column_of (table_of self.old) column) }
-        ensures ok { OnOk result (table_of self.new
-            ≡ pivoted (table_of self.old) (row_of (table_of self.old) row)
-            (column_of (table_of self.old) column)) }
-        ensures err { OnErr result (table_of self.new ≡ table_of self.old) }
-        ensures step { IfErr result (λ step. step ≡ Step.Pivot row column) }
-        ensures table { IsTable (table_of self.new) }
-        ensures same { SameSystem (table_of self.old) (table_of self.new) }
-    {
-        let place = place_of(&self.owners, row);
-        let entrant = place_of(&self.columns, column);
-        match self.pivot(place, entrant, alloc) {
-            Ok(()) => Ok(()),
-            Err(Spill) => Err(Step::Pivot { row, column }),
-        }
-    }
+    pub index: Index,
+    ghost indexed: { IsIndexed owners.items columns.items index },
 }

@@ -5,12 +5,14 @@
 mod answers;
 mod changing;
 mod grid;
+mod index;
 mod laws;
 mod listed;
 mod lists;
 mod maximising;
 mod owner;
 mod rule;
+mod solving;
 mod tableau;
 mod unknown;
 

@@ -8,7 +8,6 @@ ghost use Rattle.esc_tableau.specs.BoundInside.{BoundFits, LeavingJams, better};
 ghost use Rattle.esc_tableau.specs.Table.{IsTable, size, entry, row_constant, sample};
 
 use crate::grid::Grid;
-use crate::owner::place_of;
 use crate::{Peak, Step, Unknown};
 use esc_frac::{Frac, Sign, Spill};
 use std::cmp::Ordering;
@@ -138,7 +137,7 @@ impl Grid {
         requires { IsTable (table_of self.now) }
         ensures { result ≡ improving (table_of self.now) unknown candidate }
     {
-        let column = place_of(&self.columns, candidate);
+        let column = self.column_place(candidate);
         if column < self.columns.len() {
             let slope = self.slope(unknown, column);
             direction(column, self.columns[column].restricted, slope.sign())
@@ -153,7 +152,7 @@ impl Grid {
         requires column { column < length self.now.columns.items }
         ensures { result ≡ slope (table_of self.now) unknown column }
     {
-        let row = place_of(&self.owners, unknown);
+        let row = self.row_place(unknown);
         if row < self.owners.len() {
             self.entry(row, column)
         } else if self.columns[column].unknown.same_as(unknown) {
@@ -211,7 +210,7 @@ impl Grid {
         requires column { entrant.column < length self.now.columns.items }
         ensures { result ≡ bounding (table_of self.now) entrant owner }
     {
-        let row = place_of(&self.owners, owner);
+        let row = self.row_place(owner);
         if row >= self.owners.len() {
             return None;
         }

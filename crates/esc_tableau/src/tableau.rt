@@ -9,11 +9,13 @@ ghost use Rattle.esc_tableau.specs.Run.{Ends, PeakHolds};
 
 use crate::changing::Parts;
 use crate::grid::Grid;
+use crate::index::Index;
 use crate::rule::Next;
 use crate::{Jam, Peak, RowStop, Rows, Step, Unknown};
 use esc_frac::Frac;
 use std::alloc::{AllocError, Global};
 use std::marker::Model;
+use std::mem;
 
 /// Linear equations in solved form: each row gives its owner as a sum of multiples of the columns'
 /// unknowns and a constant. Each unknown owns a row or a column, and may be restricted to be at
@@ -51,6 +53,7 @@ impl Tableau {
                 columns: Vec::new(alloc),
                 entries: Vec::new(alloc),
                 constants: Vec::new(alloc),
+                index: Index::new(alloc),
             },
             alloc,
         }
@@ -211,11 +214,16 @@ impl Tableau {
             constants,
             restricted,
         } = rows;
-        self.grid = Grid {
+        let mut index = mem::replace(&mut self.grid.index, Index::new(self.alloc));
+        index.clear(owners.len() + columns.len());
+        let mut grid = Grid {
             owners: owners.into_owners(&restricted),
             columns: columns.into_owners(&restricted),
             entries: entries.into_lists(),
             constants: constants.into_items(),
+            index,
         };
+        grid.note_all();
+        self.grid = grid;
     }
 }

@@ -2,7 +2,7 @@ use Rattle.std.proofs.Common.{◌≡◌, ◌<◌, ◌≤◌, length, sym, ap, �
 use Rattle.std.specs.Result.{IfOk}
 use Rattle.esc_tableau.specs.Changes.{Sum, sum, OwnerFits, plus_owner}
 use Rattle.esc_tableau.specs.Grid.{table_of}
-use Rattle.esc_tableau.specs.Table.{place_of, row_of, column_of}
+use Rattle.esc_tableau.specs.Table.{row_of, column_of}
 use Rattle.esc_tableau.proofs.ChangeLaws.{PartFits-owner, plus_part-owner}
 use Rattle.esc_tableau.proofs.Places.{row_where_no_column}
 use Rattle.esc_tableau.proofs.grid.Grid.add_part.Goals as goal
@@ -11,10 +11,9 @@ pub add_owner-requires-clause-row : goal.add_owner-requires-clause-row
 add_owner-requires-clause-row c =
     let t = table_of c.args.self.now in
     let u = c.args.part.unknown in
-    let row : c.place_of-row.result ≡ row_of t u = c.place_of-row.ensures
-    ∙ ap (λ os. place_of os u) c.deref-2.ensures.value in
-    let column : c.place_of-column.result ≡ column_of t u = c.place_of-column.ensures
-    ∙ ap (λ os. place_of os u) c.deref.ensures.value in
+    let row : c.row_place-row.result ≡ row_of t u = c.row_place-row.ensures in
+    let column : c.column_place-column.result ≡ column_of t u
+    = c.column_place-column.ensures in
     let past : length t.columns ≤ column_of t u = omega
     (arith, c.args.self.now.columns.ok.0, column) in
     subst (λ r. r < length t.owners) (sym row) (row_where_no_column t c.requires.table u
@@ -24,10 +23,9 @@ pub returns-clause-fits : goal.returns-clause-fits
 returns-clause-fits c =
     let t = table_of c.args.self.now in
     let u = c.args.part.unknown in
-    let row : c.place_of-row.result ≡ row_of t u = c.place_of-row.ensures
-    ∙ ap (λ os. place_of os u) c.deref-2.ensures.value in
-    let column : c.place_of-column.result ≡ column_of t u = c.place_of-column.ensures
-    ∙ ap (λ os. place_of os u) c.deref.ensures.value in
+    let row : c.row_place-row.result ≡ row_of t u = c.row_place-row.ensures in
+    let column : c.column_place-column.result ≡ column_of t u
+    = c.column_place-column.ensures in
     let past : length t.columns ≤ column_of t u = omega
     (arith, c.args.self.now.columns.ok.0, column) in
     let fits = OwnerFits t (sum c.args.entries.now c.args.held) c.args.part.factor in (
@@ -40,10 +38,9 @@ pub returns-clause-ok : goal.returns-clause-ok
 returns-clause-ok c =
     let t = table_of c.args.self.now in
     let u = c.args.part.unknown in
-    let row : c.place_of-row.result ≡ row_of t u = c.place_of-row.ensures
-    ∙ ap (λ os. place_of os u) c.deref-2.ensures.value in
-    let column : c.place_of-column.result ≡ column_of t u = c.place_of-column.ensures
-    ∙ ap (λ os. place_of os u) c.deref.ensures.value in
+    let row : c.row_place-row.result ≡ row_of t u = c.row_place-row.ensures in
+    let column : c.column_place-column.result ≡ column_of t u
+    = c.column_place-column.ensures in
     let past : length t.columns ≤ column_of t u = omega
     (arith, c.args.self.now.columns.ok.0, column) in
     subst (λ (s : Sum). IfOk c.add_owner.result (λ k. sum c.add_owner.new.entries k ≡ s))

@@ -1,0 +1,18 @@
+use Rattle.std.proofs.Common.{sym, ◌∙◌, arith}
+use Rattle.esc_tableau.specs.Grid.{table_of}
+use Rattle.esc_tableau.proofs.Indexed.{column_noted, no_column_noted}
+use Rattle.esc_tableau.proofs.grid.Grid.column_place.Goals as goal
+
+pub returns-in-Row : goal.returns-in-Row
+returns-in-Row c = omega (
+  arith,
+  c.args.self.now.columns.ok.0,
+  no_column_noted (table_of c.args.self.now) c.requires c.args.unknown c.in-Row.field-0
+      (c.args.self.now.indexed.0 c.args.unknown c.in-Row.field-0
+      (sym c.place.ensures ∙ c.in-Row.is)),
+)
+
+pub returns-in-Column : goal.returns-in-Column
+returns-in-Column c = sym (column_noted (table_of c.args.self.now) c.requires c.args.unknown
+    c.in-Column.column (c.args.self.now.indexed.1 c.args.unknown c.in-Column.column
+    (sym c.place.ensures ∙ c.in-Column.is)))
