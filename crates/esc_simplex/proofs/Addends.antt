@@ -1,9 +1,9 @@
 -- The terms that a form is made of come into use one after another, and its row is made of them.
-use Rattle.std.proofs.Common.{◌≡◌, inl, inr, ℕ, ◌+◌, ◌<◌, ◌≤◌, List, [], ◌∷◌, ◌++◌, Some, None, slice_get, Result, Ok, Err, IfErr, OnOk, length, take, get_or, refl, sym, ap, ◌∙◌, subst, arith}
+use Rattle.std.proofs.Common.{◌≡◌, ◌⊎◌, inl, inr, ℕ, ◌+◌, ◌<◌, ◌≤◌, List, [], ◌∷◌, ◌++◌, Some, None, slice_get, Result, Ok, Err, IfOk, IfErr, OnOk, length, map, take, get_or, refl, sym, ap, ◌∙◌, subst, arith}
 use Rattle.std.specs.Prelude.{◌↔◌}
-use Rattle.std.specs.List.{All, AllZip}
+use Rattle.std.specs.List.{All, AllZip, Contains}
 use Rattle.std.proofs.lemmas.List.{get_or-map, length-map, take_more}
-use Rattle.std.proofs.lemmas.List.Elements.{All-cons, All-nil}
+use Rattle.std.proofs.lemmas.List.Elements.{All-cons, All-contains, All-map, All-nil, Contains-append_cases, Contains-push_cases}
 use Rattle.esc_term.specs.declared.term.Term.{Term}
 use Rattle.esc_frac.specs.Rational.{ℚ, one_ℚ}
 use Rattle.esc_linear.specs.Forms.{form, opaque_form, part}
@@ -15,19 +15,19 @@ use Rattle.esc_tableau.specs.declared.changing.Part.{Part}
 use Rattle.esc_trail.specs.Undo.{Notes}
 use Rattle.esc_trail.proofs.Noting.{notes_both, notes_nothing}
 use Rattle.esc_simplex.specs.Barred.{AreRowParts, IsAddendOf, IsBarred}
-use Rattle.esc_simplex.specs.Calls.{GapEnds, IsOfTerm, Makes, UnknownEnds}
+use Rattle.esc_simplex.specs.Calls.{GapEnds, IsOfTerm, IsOnlyNew, Makes, UnknownEnds}
 use Rattle.esc_simplex.specs.MakingInside.{FormEnds, IsAmong, IsLookedInto, IsUsedAddend}
 use Rattle.esc_simplex.specs.Senses.{Sense, StandsFor, gap_of, senses_of, term}
 use Rattle.esc_simplex.specs.SimplexUndo.{simplex_undo}
 use Rattle.esc_simplex.specs.SimplexLaws.{barred_more, simplex_lawful}
-use Rattle.esc_simplex.specs.View.{IsBuiltAt, IsInUse, IsSimplex, senses_in}
+use Rattle.esc_simplex.specs.View.{IsBuiltAt, IsInUse, IsSimplex, sense_in, senses_in}
 use Rattle.esc_simplex.specs.declared.made.Made.TheVariants as made
 use Rattle.esc_simplex.specs.declared.record.SimplexRec.{SimplexRec}
 use Rattle.esc_simplex.specs.declared.simplex.Simplex.{Simplex}
 use Rattle.esc_simplex.specs.declared.stop.Stop.{Stop}
 use Rattle.esc_simplex.specs.declared.stop.Stop.TheVariants as stop
 use Rattle.esc_simplex.proofs.Gapped.{many, term_in}
-use Rattle.esc_simplex.proofs.Making.{in_use_later, makes_both, makes_kept, makes_more}
+use Rattle.esc_simplex.proofs.Making.{in_use_later, makes_both, makes_kept, makes_more, sense_later}
 use Rattle.esc_simplex.proofs.Zips.{zip_push, zip_right, zip_weaker}
 
 -- ---- term by term
@@ -127,6 +127,52 @@ module _ (v : Simplex) (t : Term) (ps : List Part)
   form_used w May makes = zip_right (IsUsedAddend v) (λ a. (u : ℕ) × IsInUse w u (term a.term))
       (λ p a held. (p.unknown, in_use_later v w May makes p.unknown (term a.term) held.used)) ps
       (form t).parts used
+
+-- ---- no other unknown for the term
+
+module _ (v m w : Simplex) (t : Term) (addends : List Addend)
+    (opaque : All (λ a. form a.term ≡ opaque_form a.term) addends)
+    (into : form t ≡ opaque_form t → ⊥) (first : Makes v m (IsAmong addends))
+    (Might : Sense → Type 0) (then : Makes m w Might) (simplex : IsSimplex m) where
+  -- none that came into use for the terms of the form stands for it
+  not_among : (y : ℕ) → Contains first.unknowns y → sense_in m y ≡ term t → ⊥
+  not_among y c is =
+      let there = subst (IsAmong addends) is
+      (All-contains (λ x. IsAmong addends (sense_in m x)) first.unknowns y first.listed_may c) in
+      into (All-contains (λ s. form s ≡ opaque_form s) (map (λ p. p.term) addends) t
+      (All-map (λ s. form s ≡ opaque_form s) (λ p. p.term) addends opaque) there)
+
+  row_only : (u : ℕ) → w.unknowns ≡ m.unknowns ++ u ∷ [] → IsOnlyNew v w t u
+  row_only u listed y held = go (Contains-push_cases m.unknowns u y
+      (subst (λ us. Contains us y) listed held.listed))
+    where
+      was : Contains m.unknowns y → sense_in m y ≡ term t
+      was c = sym (sense_later m w Might then y (omega (
+        arith,
+        many m,
+        All-contains (λ x. x < length m.made) m.unknowns y simplex.listed c,
+      ))) ∙ held.stands.is
+
+      old : Contains m.unknowns y → Contains v.unknowns y ⊎ Contains first.unknowns y
+          → Contains v.unknowns y ⊎ (y ≡ u)
+      old c (inl before) = inl before
+      old c (inr new) = absurd (not_among y new (was c))
+
+      go : Contains m.unknowns y ⊎ (u ≡ y) → Contains v.unknowns y ⊎ (y ≡ u)
+      go (inl c) = old c (Contains-append_cases v.unknowns first.unknowns y
+          (subst (λ us. Contains us y) first.listed c))
+      go (inr same) = inr (sym same)
+
+  pub row_once : {E : Type 0} (r : Result ℕ E) → IfOk r (λ u. w.unknowns ≡ m.unknowns ++ u ∷ [])
+      → IfOk r (IsOnlyNew v w t)
+  row_once (Ok u) listed = row_only u listed
+  row_once (Err e) listed = tt
+
+-- a term that arithmetic does not look into has one alone
+pub opaque_only : (v w : Simplex) (t : Term) → IsSimplex w → form t ≡ opaque_form t → (u : ℕ)
+    → IsInUse w u (term t) → IsOnlyNew v w t u
+opaque_only v w t h opaque u held y other = inr (h.opaque_once y u t opaque other.stands
+    held.stands)
 
 -- ---- what the call answers
 

@@ -1,5 +1,5 @@
 -- What it shows that one gap of two terms is restricted, and then the other one.
-use Rattle.std.proofs.Common.{◌≡◌, inl, inr, ℕ, false, ℤ, pos, ◌-ℤ◌, ◌≤ℤ◌, Result, Ok, Err, IfErr, List, [], ◌∷◌, ◌++◌, length, map, sym, ap, ap₂, ◌∙◌, subst, subst₂, arith}
+use Rattle.std.proofs.Common.{◌≡◌, append_assoc, inl, inr, ℕ, false, ℤ, pos, ◌-ℤ◌, ◌≤ℤ◌, Result, Ok, Err, IfErr, List, [], ◌∷◌, ◌++◌, length, map, sym, ap, ap₂, ◌∙◌, subst, subst₂, arith}
 use Rattle.std.specs.Prelude.{◌↔◌}
 use Rattle.std.specs.List.{All, Contains}
 use Rattle.std.proofs.lemmas.Int.{ints}
@@ -12,16 +12,17 @@ use Rattle.esc_egraph.specs.declared.state.State.{State}
 use Rattle.esc_egraph.specs.declared.state.State.TheVariants.{Open, Closed}
 use Rattle.esc_cover.specs.Assignment.{Assignment, Gap, gap, value}
 use Rattle.esc_simplex.specs.Barred.{IsBarred}
-use Rattle.esc_simplex.specs.Calls.{AllowsSome, AllowsWith, AtLeastZeroEnds, EqualEnds, IsEqualAt, IsForTerm, IsRestrictedLast, KeepsLists, Makes, both_gaps, gap_in}
-use Rattle.esc_simplex.specs.MakingInside.{AllowsAlike, AllowsAlso, GapRestrictedEnds, IsUp}
-use Rattle.esc_simplex.specs.Senses.{Sense, gap_of, sense_value, term_at}
+use Rattle.esc_simplex.specs.Calls.{AllowsSome, AllowsWith, AtLeastZeroEnds, EqualEnds, EqualRestricts, GapIsRestricted, IsEqualAt, IsForTerm, IsRestrictedLast, KeepsLists, Makes, both_gaps, gap_in}
+use Rattle.esc_simplex.specs.MakingInside.{AllowsAlike, AllowsAlso, GapRestrictedEnds, GapRestricts, IsUp}
+use Rattle.esc_simplex.specs.Senses.{Sense, StandsFor, gap_of, sense_value, senses_of, term_at}
 use Rattle.esc_simplex.specs.SimplexLaws.{barred_more}
 use Rattle.esc_simplex.specs.View.{Allows, IsInUse, IsSimplex, restrictions_in, sense_in}
+use Rattle.esc_simplex.specs.declared.made.Made.{Made}
 use Rattle.esc_simplex.specs.declared.simplex.Simplex.{Simplex}
 use Rattle.esc_simplex.specs.declared.stop.Stop.{Stop}
 use Rattle.esc_simplex.proofs.Gapped.{stands_for_made}
-use Rattle.esc_simplex.proofs.Making.{makes_both, makes_more, term_later}
-use Rattle.esc_simplex.proofs.Points.{allowed_at}
+use Rattle.esc_simplex.proofs.Making.{in_use_later, makes_both, makes_more, term_later}
+use Rattle.esc_simplex.proofs.Points.{allowed_at, used_made}
 
 -- ---- one gap
 
@@ -90,6 +91,34 @@ module _ (v m w : Simplex) (hm : IsSimplex m) (u : ℕ) (g : Gap)
     λ x a up. ends.1 x ((allows_before x).1 a, (is_up x).1 up),
   )
   gap_ends (Err s) ends = alike ends
+
+-- from v to m it was made, and from there to w it was restricted
+module _ (v m w : Simplex) (h : IsSimplex v) (u : ℕ) (g : Gap) (new : u ≡ length v.made)
+    (before : m.restricted ≡ v.restricted) (used : IsInUse m u (gap_of g))
+    (keeps : KeepsLists m w) where
+  unrestricted : Contains m.restricted u → ⊥
+  unrestricted c = absurd (omega (
+    arith,
+    new,
+    used_made v h u (All-contains (Contains v.unknowns) v.restricted u h.restricted
+        (subst (λ rs. Contains rs u) before c)),
+  ))
+
+  used_then : IsInUse w u (gap_of g)
+  used_then = record {
+    listed = subst (λ us. Contains us u) (sym keeps.unknowns) used.listed;
+    stands = subst (λ (ms : List Made). StandsFor (senses_of ms) u (gap_of g)) (sym keeps.made)
+        used.stands;
+  }
+
+  pub gap_restricts : (r : Result State Stop) → AtLeastZeroEnds m w u r → GapRestricts v w g r
+  gap_restricts (Ok Open) ends = go ends.0
+    where
+      go : IsRestrictedLast m w u → GapIsRestricted v w g
+      go (inl there) = absurd (unrestricted there.0)
+      go (inr more) = (u, used_then, more ∙ ap (λ rs. rs ++ u ∷ []) before)
+  gap_restricts (Ok Closed) ends = ends.0 ∙ before
+  gap_restricts (Err s) ends = ends ∙ before
 
 -- ---- both gaps
 
@@ -204,6 +233,29 @@ module _ (v m : Simplex) (u y : ℕ) (upper : IsForTerm v u) (lower : IsForTerm 
       → GapRestrictedEnds m w (gap_in m y u false) r → EqualEnds v w u y r
   ends_second w stands r ends = second_ends v u y upper lower m w stands r
       (subst (λ g. GapRestrictedEnds m w g r) gap_later ends)
+
+  -- and is restricted behind the first
+  pub restricts_second : (w : Simplex) (Might : Sense → Type 0) → Makes m w Might
+      → GapIsRestricted v m (gap_in v u y false) → (r : Result State Stop)
+      → GapRestricts m w (gap_in m y u false) r → EqualRestricts v w u y r
+  restricts_second w Might more first (Ok Open) ends = (
+    first.0,
+    ends.0,
+    in_use_later m w Might more first.0 (gap_of (gap_in v u y false)) first.1,
+    subst (λ g. IsInUse w ends.0 (gap_of g)) gap_later ends.1,
+    ends.2 ∙ ap (λ rs. rs ++ ends.0 ∷ []) first.2
+        ∙ append_assoc v.restricted (first.0 ∷ []) (ends.0 ∷ []),
+  )
+  restricts_second w Might more first (Ok Closed) ends = inr (
+    first.0,
+    in_use_later m w Might more first.0 (gap_of (gap_in v u y false)) first.1,
+    ends ∙ first.2,
+  )
+  restricts_second w Might more first (Err s) ends = inr (
+    first.0,
+    in_use_later m w Might more first.0 (gap_of (gap_in v u y false)) first.1,
+    ends ∙ first.2,
+  )
 
 -- ---- what was made for both
 

@@ -16,8 +16,10 @@ use Rattle.esc_simplex.proofs.Grown.{map-places, nought, senses_more}
 pub makes_kept : (v w : Simplex) (May : Sense → Type 0) → w.made ≡ v.made → w.unknowns ≡ v.unknowns
     → w.bound ≡ v.bound → w.limit ≡ v.limit → Makes v w May
 makes_kept v w May made unknowns bound limit = record {
+  entries = [];
+  made = made ∙ sym (append-nil v.made);
   senses = [];
-  made = ap senses_of made ∙ sym (append-nil (senses_in v));
+  means = ap senses_of made ∙ sym (append-nil (senses_in v));
   may = All-nil May;
   unknowns = [];
   listed = unknowns ∙ sym (append-nil v.unknowns);
@@ -65,8 +67,10 @@ module _ (v : Simplex) (h : IsSimplex v) (m : Made)
       (limit : w.limit ≡ v.limit) where
     pub makes_made : w.unknowns ≡ v.unknowns → Makes v w May
     makes_made same = record {
+      entries = m ∷ [];
+      made = made;
       senses = sense_of v.made m ∷ [];
-      made = senses_then;
+      means = senses_then;
       may = All-cons May (sense_of v.made m) [] may (All-nil May);
       unknowns = [];
       listed = same ∙ sym (append-nil v.unknowns);
@@ -78,8 +82,10 @@ module _ (v : Simplex) (h : IsSimplex v) (m : Made)
     pub makes_listed : (u : ℕ) → u ≡ length v.made → w.unknowns ≡ v.unknowns ++ u ∷ []
         → Makes v w May
     makes_listed u e same = record {
+      entries = m ∷ [];
+      made = made;
       senses = sense_of v.made m ∷ [];
-      made = senses_then;
+      means = senses_then;
       may = All-cons May (sense_of v.made m) [] may (All-nil May);
       unknowns = u ∷ [];
       listed = same;
@@ -93,7 +99,7 @@ module _ (v : Simplex) (h : IsSimplex v) (m : Made)
 
 module _ (v w : Simplex) (May : Sense → Type 0) (makes : Makes v w May) where
   pub sense_later : (u : ℕ) → u < length (senses_in v) → sense_in w u ≡ sense_in v u
-  sense_later u b = ap (λ ss. sense_at ss u) makes.made
+  sense_later u b = ap (λ ss. sense_at ss u) makes.means
       ∙ get_or_append_left (senses_in v) makes.senses nought u b
 
   pub stands_later : (u : ℕ) (s : Sense) → StandsFor (senses_in v) u s
@@ -102,7 +108,7 @@ module _ (v w : Simplex) (May : Sense → Type 0) (makes : Makes v w May) where
     there = omega (
       arith,
       for.there,
-      ap length makes.made,
+      ap length makes.means,
       length-append (senses_in v) makes.senses,
     );
     is = sense_later u for.there ∙ for.is;
@@ -143,8 +149,10 @@ module _ (v w : Simplex) (May : Sense → Type 0) (makes : Makes v w May) where
 pub makes_more : (v w : Simplex) (May Might : Sense → Type 0) → ((s : Sense) → May s → Might s)
     → Makes v w May → Makes v w Might
 makes_more v w May Might more makes = record {
-  senses = makes.senses;
+  entries = makes.entries;
   made = makes.made;
+  senses = makes.senses;
+  means = makes.means;
   may = All-weaker May Might more makes.senses makes.may;
   unknowns = makes.unknowns;
   listed = makes.listed;
@@ -157,8 +165,11 @@ makes_more v w May Might more makes = record {
 pub makes_both : (u v w : Simplex) (May : Sense → Type 0) → IsSimplex v → Makes u v May
     → Makes v w May → Makes u w May
 makes_both u v w May h first then = record {
+  entries = first.entries ++ then.entries;
+  made = then.made ∙ ap (λ ms. ms ++ then.entries) first.made
+      ∙ append_assoc u.made first.entries then.entries;
   senses = first.senses ++ then.senses;
-  made = then.made ∙ ap (λ ss. ss ++ then.senses) first.made
+  means = then.means ∙ ap (λ ss. ss ++ then.senses) first.means
       ∙ append_assoc (senses_in u) first.senses then.senses;
   may = All-append May first.senses then.senses first.may then.may;
   unknowns = first.unknowns ++ then.unknowns;
@@ -186,8 +197,10 @@ makes_both u v w May h first then = record {
 pub makes_keeping : (u v w : Simplex) (May : Sense → Type 0) → Makes u v May → KeepsLists v w
     → Makes u w May
 makes_keeping u v w May makes keeps = record {
+  entries = makes.entries;
+  made = keeps.made ∙ makes.made;
   senses = makes.senses;
-  made = ap senses_of keeps.made ∙ makes.made;
+  means = ap senses_of keeps.made ∙ makes.means;
   may = makes.may;
   unknowns = makes.unknowns;
   listed = keeps.unknowns ∙ makes.listed;
@@ -202,8 +215,10 @@ pub makes_used : {E : Type 0} (v w : Simplex) (u : ℕ) (r : Result Unit E)
     → OnOk r (w ≡ record v { unknowns = v.unknowns ++ u ∷ [] }) → OnErr r (w ≡ v)
     → Makes v w (λ s. s ≡ sense_in v u)
 makes_used v w u (Ok x) ok err = record {
+  entries = [];
+  made = ap (λ (s : Simplex). s.made) ok ∙ sym (append-nil v.made);
   senses = [];
-  made = ap senses_in ok ∙ sym (append-nil (senses_in v));
+  means = ap senses_in ok ∙ sym (append-nil (senses_in v));
   may = All-nil (λ s. s ≡ sense_in v u);
   unknowns = u ∷ [];
   listed = ap (λ (s : Simplex). s.unknowns) ok;

@@ -14,6 +14,7 @@ use Rattle.esc_cover.specs.Assignment.{Assignment, Gap, NoneNegative, gap}
 use Rattle.esc_simplex.specs.Barred.{AreKeptRows}
 use Rattle.esc_simplex.specs.Senses.{Sense, gap_of, sense_fraction, sense_value, senses_of, term, term_at}
 use Rattle.esc_simplex.specs.View.{Allows, IsInUse, sense_in, senses_in}
+use Rattle.esc_simplex.specs.declared.made.Made.{Made}
 use Rattle.esc_simplex.specs.declared.simplex.Simplex.{Simplex}
 use Rattle.esc_simplex.specs.declared.stop.Parted.{Parted}
 use Rattle.esc_simplex.specs.declared.stop.Parted.TheVariants.{Equal, Different}
@@ -41,14 +42,20 @@ IsOfTerm t (gap_of g) = ⊥
 
 -- unknowns came into use, for which entries that may be made were added behind all others
 pub record Makes (v w : Simplex) (May : Sense → Type 0) : Type 0 where
+  pub entries : List Made
+  pub made : w.made ≡ v.made ++ entries
   pub senses : List Sense
-  pub made : senses_in w ≡ senses_in v ++ senses
+  pub means : senses_in w ≡ senses_in v ++ senses
   pub may : All May senses
   pub unknowns : List ℕ
   pub listed : w.unknowns ≡ v.unknowns ++ unknowns
   pub listed_may : All (λ u. May (sense_in w u)) unknowns
   pub bound : w.bound ≡ v.bound
   pub limit : w.limit ≡ v.limit
+
+-- no other unknown for the term came into use
+abbrev pub IsOnlyNew : Simplex → Simplex → Term → ℕ → Type 0
+IsOnlyNew v w t u = (y : ℕ) → IsInUse w y (term t) → Contains v.unknowns y ⊎ (y ≡ u)
 
 -- the term's form is looked at first, and nothing is maximised
 abbrev pub UnknownEnds : Term → Result ℕ Stop → Type 0
@@ -79,6 +86,15 @@ abbrev pub IsRestrictedLast : Simplex → Simplex → ℕ → Type 0
 IsRestrictedLast v w u = (Contains v.restricted u × (w.restricted ≡ v.restricted))
     ⊎ (w.restricted ≡ v.restricted ++ u ∷ [])
 
+-- an unknown of the gap is restricted, last
+abbrev pub GapIsRestricted : Simplex → Simplex → Gap → Type 0
+GapIsRestricted v w g = (a : ℕ) × IsInUse w a (gap_of g)
+    × (w.restricted ≡ v.restricted ++ a ∷ [])
+
+-- it alone is, or nothing is
+abbrev pub RestrictsOne : Simplex → Simplex → Gap → Type 0
+RestrictsOne v w g = (w.restricted ≡ v.restricted) ⊎ GapIsRestricted v w g
+
 -- the assignment is allowed, and u is at least 0
 abbrev pub IsAbove : Simplex → ℕ → Assignment → Type 0
 IsAbove v u x = Allows v x × (pos 0 ≤ℤ sense_value x (sense_in v u))
@@ -104,6 +120,14 @@ EqualEnds v w u y (Ok Open) = AllowsWith v w (both_gaps v u y)
 EqualEnds v w u y (Ok Closed) = AllowsSome v w (both_gaps v u y)
     × ((x : Assignment) → IsEqualAt v u y x → ⊥)
 EqualEnds v w u y (Err stop) = AllowsSome v w (both_gaps v u y)
+
+-- both gaps are restricted, last and in their order, or at most the first
+abbrev pub EqualRestricts : Simplex → Simplex → ℕ → ℕ → Result State Stop → Type 0
+EqualRestricts v w u y (Ok Open) = (a : ℕ) × (b : ℕ)
+    × IsInUse w a (gap_of (gap_in v u y false)) × IsInUse w b (gap_of (gap_in v y u false))
+    × (w.restricted ≡ v.restricted ++ a ∷ b ∷ [])
+EqualRestricts v w u y (Ok Closed) = RestrictsOne v w (gap_in v u y false)
+EqualRestricts v w u y (Err stop) = RestrictsOne v w (gap_in v u y false)
 
 -- some allowed assignment gives them different values, or none makes the first greater
 abbrev pub ExceedShows : Simplex → ℕ → ℕ → Bool → Type 0

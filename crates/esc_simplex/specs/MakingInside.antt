@@ -10,6 +10,7 @@ use Rattle.esc_tableau.specs.declared.changing.Part.{Part}
 use Rattle.esc_egraph.specs.declared.state.State.{State}
 use Rattle.esc_egraph.specs.declared.state.State.TheVariants.{Open, Closed}
 use Rattle.esc_cover.specs.Assignment.{Assignment, Gap, gap_value}
+use Rattle.esc_simplex.specs.Calls.{GapIsRestricted}
 use Rattle.esc_simplex.specs.Senses.{Sense, StandsFor, gap_of, senses_of, term}
 use Rattle.esc_simplex.specs.View.{Allows, IsInUse}
 use Rattle.esc_simplex.specs.declared.made.Made.{Made}
@@ -62,3 +63,9 @@ GapRestrictedEnds v w g (Ok Open) = AllowsAlso v w g × ((x : Assignment) × All
 GapRestrictedEnds v w g (Ok Closed) = AllowsAlike v w
     × ((x : Assignment) → Allows v x → IsUp g x → ⊥)
 GapRestrictedEnds v w g (Err stop) = AllowsAlike v w
+
+-- its unknown is restricted, last, or nothing is
+abbrev pub GapRestricts : Simplex → Simplex → Gap → Result State Stop → Type 0
+GapRestricts v w g (Ok Open) = GapIsRestricted v w g
+GapRestricts v w g (Ok Closed) = w.restricted ≡ v.restricted
+GapRestricts v w g (Err stop) = w.restricted ≡ v.restricted

@@ -5,7 +5,7 @@ ghost use Rattle.esc_linear.specs.Forms.{form as form_by_rules, opaque_form};
 ghost use Rattle.esc_linear.specs.Steps.{AllFit, steps};
 ghost use Rattle.esc_trail.specs.Undo.{Notes};
 ghost use Rattle.esc_simplex.specs.Barred.{AreRowParts, IsBarred};
-ghost use Rattle.esc_simplex.specs.Calls.{GapEnds, IsOfTerm, Makes, UnknownEnds};
+ghost use Rattle.esc_simplex.specs.Calls.{GapEnds, IsOfTerm, IsOnlyNew, Makes, UnknownEnds};
 ghost use Rattle.esc_simplex.specs.MakingInside.{FindsTerm, FormEnds, IsAmong, IsLookedInto, IsUsedAddend};
 ghost use Rattle.esc_simplex.specs.Senses.{StandsFor, gap_of, sense_of, term as sense_term};
 ghost use Rattle.esc_simplex.specs.SimplexUndo.{AreSame, simplex_undo};
@@ -40,6 +40,7 @@ impl Simplex {
         ensures ok { IfOk result (λ u. IsInUse self.new u (sense_term term.now)) }
         ensures parts { OnOk result (All (λ p. (u : ℕ) × IsInUse self.new u (sense_term p.term))
             (form_by_rules term.now).parts) }
+        ensures once { IfOk result (IsOnlyNew self.old self.new term.now) }
         ensures ends { UnknownEnds term.now result }
         ensures stop { IfErr result (IsBarred self.new (λ t. t ≡ term.now) (λ g. ⊥)) }
         ensures makes { Makes self.old self.new (IsOfTerm term.now) }
@@ -201,6 +202,8 @@ impl Simplex {
         requires built { IsBuiltAt self.old.made (length self.old.made) entry }
         requires looked_into { IsLookedInto (sense_of self.old.made entry) }
         ensures ok { IfOk result (λ w. IsInUse self.new w (sense_of self.old.made entry)) }
+        ensures new { IfOk result (λ w. w ≡ length self.old.made) }
+        ensures listed { IfOk result (λ w. self.new.unknowns ≡ self.old.unknowns ++ w ∷ []) }
         ensures ends { GapEnds result }
         ensures stop { IfErr result (IsBarred self.new
             (λ t. sense_of self.old.made entry ≡ sense_term t)

@@ -7,8 +7,8 @@ ghost use Rattle.esc_linear.specs.Forms.{form};
 ghost use Rattle.esc_tableau.specs.Listed.{tabled};
 ghost use Rattle.esc_trail.specs.Undo.{Notes};
 ghost use Rattle.esc_simplex.specs.Barred.{IsBarred};
-ghost use Rattle.esc_simplex.specs.Calls.{AreRowsFor, AtLeastZeroEnds, EqualEnds, ExceedShows, GapEnds, IsForTerm, IsOfTerm, KeepsLists, LiftShows, Makes, PartEnds, SampleIsAllowed, UnknownEnds, both_gaps, gap_in};
-ghost use Rattle.esc_simplex.specs.MakingInside.{GapRestrictedEnds};
+ghost use Rattle.esc_simplex.specs.Calls.{AreRowsFor, AtLeastZeroEnds, EqualEnds, EqualRestricts, ExceedShows, GapEnds, IsForTerm, IsOfTerm, IsOnlyNew, KeepsLists, LiftShows, Makes, PartEnds, SampleIsAllowed, UnknownEnds, both_gaps, gap_in};
+ghost use Rattle.esc_simplex.specs.MakingInside.{GapRestrictedEnds, GapRestricts};
 ghost use Rattle.esc_simplex.specs.Senses.{gap_of, term as sense_term};
 ghost use Rattle.esc_simplex.specs.SimplexUndo.{AreSame, simplex_undo};
 ghost use Rattle.esc_simplex.specs.View.{IsInUse, IsSimplex, bound_to};
@@ -100,6 +100,18 @@ impl Simplex {
         unknown_in(self.bound.as_slice(), a)
     }
 
+    /// The bound nodes with their unknowns, in the order of binding.
+    pub fn bound_nodes(&self) -> &[(Node, Unknown)]
+        ensures { result.now ≡ self.now.bound }
+    {
+        self.bound.as_slice()
+    }
+
+    /// Where lists of unknowns take their memory.
+    pub fn allocator(&self) -> Global {
+        self.alloc
+    }
+
     /// The unknown's value at one assignment that the restrictions allow, which is the same for all
     /// unknowns.
     pub fn value(&self, u: Unknown) -> Frac
@@ -120,6 +132,7 @@ impl Simplex {
         ensures ok { IfOk result (λ u. IsInUse self.new u (sense_term term.now)) }
         ensures parts { OnOk result (All (λ p. (u : ℕ) × IsInUse self.new u (sense_term p.term))
             (form term.now).parts) }
+        ensures once { IfOk result (IsOnlyNew self.old self.new term.now) }
         ensures ends { UnknownEnds term.now result }
         ensures stop { IfErr result (IsBarred self.new (λ t. t ≡ term.now) (λ g. ⊥)) }
         ensures makes { Makes self.old self.new (IsOfTerm term.now) }
@@ -150,6 +163,8 @@ impl Simplex {
         requires u { IsForTerm self.old u }
         requires v { IsForTerm self.old v }
         ensures ok { IfOk result (λ w. IsInUse self.new w (gap_of (gap_in self.old u v strict))) }
+        ensures new { IfOk result (λ w. w ≡ length self.old.made) }
+        ensures listed { IfOk result (λ w. self.new.unknowns ≡ self.old.unknowns ++ w ∷ []) }
         ensures ends { GapEnds result }
         ensures stop { IfErr result (IsBarred self.new (λ t. ⊥) (λ g. g
             ≡ gap_in self.old u v strict)) }
@@ -235,6 +250,7 @@ impl Simplex {
         requires u { IsForTerm self.old u }
         requires v { IsForTerm self.old v }
         ensures ends { EqualEnds self.old self.new u v result }
+        ensures restricts { EqualRestricts self.old self.new u v result }
         ensures stop { IfErr result (IsBarred self.new (λ t. ⊥)
             (Contains (both_gaps self.old u v))) }
         ensures makes { Makes self.old self.new (λ s. (g : Gap)
@@ -311,6 +327,7 @@ impl Simplex {
         requires u { IsForTerm self.old u }
         requires v { IsForTerm self.old v }
         ensures ends { GapRestrictedEnds self.old self.new (gap_in self.old u v false) result }
+        ensures restricts { GapRestricts self.old self.new (gap_in self.old u v false) result }
         ensures stop { IfErr result (IsBarred self.new (λ t. ⊥) (λ g. g
             ≡ gap_in self.old u v false)) }
         ensures makes { Makes self.old self.new (λ s. s ≡ gap_of (gap_in self.old u v false)) }

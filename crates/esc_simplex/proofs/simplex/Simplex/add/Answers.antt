@@ -77,6 +77,13 @@ returns-in-Ok-clause-ok g c =
     (means c.args.self.now c.args.entry c.requires.built) c.make_row.new.self
     c.in_ok-unknown.ensures.ok c.in_ok-unknown.unknown c.in_ok-unknown.ensures.unknown))
 
+pub returns-in-Ok-clause-new : goal.returns-in-Ok-clause-new
+returns-in-Ok-clause-new g c = c.in_ok-unknown.ensures.unknown
+
+pub returns-in-Ok-clause-listed : goal.returns-in-Ok-clause-listed
+returns-in-Ok-clause-listed g c = ap (λ (s : Simplex). s.unknowns) c.in-Ok.ensures.ok
+    ∙ ap (λ (s : Simplex). s.unknowns ++ c.in_ok-unknown.unknown ∷ []) c.make_row.ensures.rest
+
 pub returns-in-Ok-clause-makes : goal.returns-in-Ok-clause-makes
 returns-in-Ok-clause-makes g c =
     makes_listed c.args.self.now c.requires.simplex c.args.entry

@@ -1,14 +1,14 @@
-use Rattle.std.proofs.Common.{Ok, IfErr, false, sym, subst}
+use Rattle.std.proofs.Common.{inl, Ok, IfErr, false, sym, subst}
 use Rattle.std.specs.List.{Contains}
 use Rattle.esc_tableau.proofs.RunLaws.{err_is}
 use Rattle.esc_trail.proofs.Noting.{notes_both}
 use Rattle.esc_simplex.specs.Barred.{IsBarred}
-use Rattle.esc_simplex.specs.Calls.{EqualEnds, both_gaps, gap_in}
-use Rattle.esc_simplex.specs.MakingInside.{GapRestrictedEnds}
+use Rattle.esc_simplex.specs.Calls.{EqualEnds, EqualRestricts, both_gaps, gap_in}
+use Rattle.esc_simplex.specs.MakingInside.{GapRestrictedEnds, GapRestricts}
 use Rattle.esc_simplex.specs.SimplexUndo.{simplex_undo}
 use Rattle.esc_simplex.specs.SimplexLaws.{simplex_lawful}
 use Rattle.esc_simplex.proofs.Alike.{barred_first}
-use Rattle.esc_simplex.proofs.Equalled.{barred_at_second, closed_at_first, ends_second, gap_later, makes_first, makes_second, stopped_at_first}
+use Rattle.esc_simplex.proofs.Equalled.{barred_at_second, closed_at_first, ends_second, gap_later, makes_first, makes_second, restricts_second, stopped_at_first}
 use Rattle.esc_simplex.proofs.Making.{for_later}
 use Rattle.esc_simplex.proofs.simplex.Simplex.equal.Goals as goal
 
@@ -18,6 +18,12 @@ returns-in_err-state-clause-ends g c = subst (EqualEnds c.args.self.now c.restri
     (sym (err_is c.from_residual.result c.in_err-state.field-0.0 c.from_residual.ensures))
     (stopped_at_first c.args.self.now c.args.u c.args.v c.requires.u c.requires.v
     c.restrict_gap.new.self c.in_err-state.field-0.0 c.in_err-state.ensures.ends)
+
+pub returns-in_err-state-clause-restricts : goal.returns-in_err-state-clause-restricts
+returns-in_err-state-clause-restricts g c = subst (EqualRestricts c.args.self.now
+    c.restrict_gap.new.self c.args.u c.args.v)
+    (sym (err_is c.from_residual.result c.in_err-state.field-0.0 c.from_residual.ensures))
+    (inl c.in_err-state.ensures.restricts)
 
 pub returns-in_err-state-clause-stop : goal.returns-in_err-state-clause-stop
 returns-in_err-state-clause-stop g c = subst (λ r. IfErr r (IsBarred c.restrict_gap.new.self
@@ -45,6 +51,11 @@ returns-in-Closed-clause-ends g c = closed_at_first c.args.self.now c.args.u c.a
     (gap_in c.args.self.now c.args.u c.args.v false) (Ok s)) c.in-Closed.is
     c.in_ok-state.ensures.ends)
 
+pub returns-in-Closed-clause-restricts : goal.returns-in-Closed-clause-restricts
+returns-in-Closed-clause-restricts g c = inl (subst (λ s. GapRestricts c.args.self.now
+    c.restrict_gap.new.self (gap_in c.args.self.now c.args.u c.args.v false) (Ok s)) c.in-Closed.is
+    c.in_ok-state.ensures.restricts)
+
 pub returns-in-Closed-clause-makes : goal.returns-in-Closed-clause-makes
 returns-in-Closed-clause-makes g c = makes_first c.args.self.now c.args.u c.args.v
     c.restrict_gap.new.self c.restrict_gap.ensures.makes
@@ -57,6 +68,15 @@ returns-in-Open-clause-ends g c = ends_second c.args.self.now c.restrict_gap.new
     (gap_in c.args.self.now c.args.u c.args.v false) (Ok s)) c.in-Open.is
     c.in_ok-state.ensures.ends).0
     c.restrict_gap-in-Open.result c.restrict_gap-in-Open.ensures.ends
+
+pub returns-in-Open-clause-restricts : goal.returns-in-Open-clause-restricts
+returns-in-Open-clause-restricts g c = restricts_second c.args.self.now c.restrict_gap.new.self
+    c.args.u c.args.v c.requires.u c.requires.v _ c.restrict_gap.ensures.makes
+    c.restrict_gap-in-Open.new.self _ c.restrict_gap-in-Open.ensures.makes
+    (subst (λ s. GapRestricts c.args.self.now c.restrict_gap.new.self
+    (gap_in c.args.self.now c.args.u c.args.v false) (Ok s)) c.in-Open.is
+    c.in_ok-state.ensures.restricts)
+    c.restrict_gap-in-Open.result c.restrict_gap-in-Open.ensures.restricts
 
 pub returns-in-Open-clause-stop : goal.returns-in-Open-clause-stop
 returns-in-Open-clause-stop g c = barred_at_second c.args.self.now c.restrict_gap.new.self

@@ -1,4 +1,4 @@
-use Rattle.std.proofs.Common.{◌≡◌, [], ◌∷◌, ◌++◌, refl, sym, ap, ◌∙◌, subst, subst₂}
+use Rattle.std.proofs.Common.{◌≡◌, [], ◌∷◌, ◌++◌, refl, sym, ap, ◌∙◌, subst, subst₂, List}
 use Rattle.std.specs.Prelude.{MatchOption}
 use Rattle.esc_tableau.specs.Table.{Table}
 use Rattle.esc_simplex.specs.SimplexUndo.{AreSame}
@@ -6,7 +6,6 @@ use Rattle.esc_simplex.specs.SimplexLaws.{simplex_lawful}
 use Rattle.esc_simplex.specs.View.{IsSimplex}
 use Rattle.esc_simplex.specs.declared.made.Made.{Made}
 use Rattle.esc_simplex.specs.declared.made.Made.TheVariants.{Term}
-use Rattle.std.proofs.Common.{List}
 use Rattle.esc_simplex.proofs.Columns.{column_same, column_simplex}
 use Rattle.esc_simplex.proofs.Copied.{made_fill}
 use Rattle.esc_simplex.proofs.Lists.{popped}

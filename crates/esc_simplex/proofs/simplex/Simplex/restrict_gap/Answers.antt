@@ -3,10 +3,10 @@ use Rattle.esc_tableau.proofs.RunLaws.{err_is}
 use Rattle.esc_trail.proofs.Noting.{notes_both}
 use Rattle.esc_simplex.specs.Barred.{IsBarred}
 use Rattle.esc_simplex.specs.Calls.{gap_in}
-use Rattle.esc_simplex.specs.MakingInside.{GapRestrictedEnds}
+use Rattle.esc_simplex.specs.MakingInside.{GapRestrictedEnds, GapRestricts}
 use Rattle.esc_simplex.specs.SimplexUndo.{simplex_undo}
 use Rattle.esc_simplex.specs.SimplexLaws.{simplex_lawful}
-use Rattle.esc_simplex.proofs.Equalled.{barred_once, gap_ends}
+use Rattle.esc_simplex.proofs.Equalled.{barred_once, gap_ends, gap_restricts}
 use Rattle.esc_simplex.proofs.Making.{allows_alike, makes_keeping, restrictions_later}
 use Rattle.esc_simplex.proofs.simplex.Simplex.restrict_gap.Goals as goal
 
@@ -16,6 +16,12 @@ returns-in_err-gap-clause-ends g c = subst (GapRestrictedEnds c.args.self.now c.
     (sym (err_is c.from_residual.result c.in_err-gap.field-0.0 c.from_residual.ensures))
     (allows_alike c.args.self.now c.gap.new.self _ c.gap.ensures.makes c.requires.simplex
     c.gap.ensures.restricted)
+
+pub returns-in_err-gap-clause-restricts : goal.returns-in_err-gap-clause-restricts
+returns-in_err-gap-clause-restricts g c = subst (GapRestricts c.args.self.now c.gap.new.self
+    (gap_in c.args.self.now c.args.u c.args.v false))
+    (sym (err_is c.from_residual.result c.in_err-gap.field-0.0 c.from_residual.ensures))
+    c.gap.ensures.restricted
 
 pub returns-in_err-gap-clause-stop : goal.returns-in_err-gap-clause-stop
 returns-in_err-gap-clause-stop g c = subst (λ r. IfErr r (IsBarred c.gap.new.self (λ t. ⊥) (λ f. f
@@ -31,6 +37,13 @@ returns-clause-ends g c = gap_ends c.args.self.now c.gap.new.self c.at_least_zer
     c.gap.ensures.simplex c.in_ok-gap.gap (gap_in c.args.self.now c.args.u c.args.v false)
     (restrictions_later c.args.self.now c.gap.new.self _ c.gap.ensures.makes c.requires.simplex
     c.gap.ensures.restricted) c.in_ok-gap.ensures.ok c.at_least_zero.ensures.keeps
+    c.at_least_zero.result c.at_least_zero.ensures.ends
+
+pub returns-clause-restricts : goal.returns-clause-restricts
+returns-clause-restricts g c = gap_restricts c.args.self.now c.gap.new.self
+    c.at_least_zero.new.self c.requires.simplex c.in_ok-gap.gap
+    (gap_in c.args.self.now c.args.u c.args.v false) c.in_ok-gap.ensures.new
+    c.gap.ensures.restricted c.in_ok-gap.ensures.ok c.at_least_zero.ensures.keeps
     c.at_least_zero.result c.at_least_zero.ensures.ends
 
 pub returns-clause-stop : goal.returns-clause-stop

@@ -1,5 +1,4 @@
-use Rattle.std.proofs.Common.{◌≡◌, length, sym, ap, ◌∙◌, subst}
-use Rattle.std.proofs.Common.{IfErr, IfOk}
+use Rattle.std.proofs.Common.{◌≡◌, refl, length, sym, ap, ◌∙◌, subst, IfErr, IfOk}
 use Rattle.esc_linear.specs.declared.form.Form.{Form}
 use Rattle.esc_term.specs.declared.term.Term.{Term}
 use Rattle.esc_trail.proofs.Noting.{notes_both}
@@ -11,7 +10,7 @@ use Rattle.esc_simplex.specs.SimplexUndo.{simplex_undo}
 use Rattle.esc_simplex.specs.SimplexLaws.{simplex_lawful}
 use Rattle.esc_simplex.specs.View.{IsBuiltAt, IsInUse, senses_in}
 use Rattle.esc_simplex.specs.declared.made.Made.TheVariants as made
-use Rattle.esc_simplex.proofs.Addends.{among_term, barred_term_alone, form_built, form_row, form_used, itself_of_term, opaque_addends, unknown_ends, used_of_form, when_ok}
+use Rattle.esc_simplex.proofs.Addends.{among_term, barred_term_alone, form_built, form_row, form_used, itself_of_term, opaque_addends, row_once, unknown_ends, used_of_form, when_ok}
 use Rattle.esc_simplex.proofs.Making.{makes_both, makes_more}
 use Rattle.esc_simplex.proofs.simplex.Simplex.row_unknown.Goals as goal
 
@@ -62,6 +61,14 @@ returns-clause-parts g c = when_ok _ c.add.result
     (used_of_form c.args.term.now c.as_slice.result.now
     (c.as_slice.ensures ∙ ap (λ (f : Form). f.parts) c.requires.form) c.addends.new.self
     c.in-Ok.parts c.in-Ok.ensures.ok) c.add.new.self _ c.add.ensures.makes)
+
+pub returns-clause-once : goal.returns-clause-once
+returns-clause-once g c = row_once c.args.self.now c.addends.new.self c.add.new.self
+    c.args.term.now c.as_slice.result.now
+    (opaque_addends c.args.term.now c.as_slice.result.now
+    (c.as_slice.ensures ∙ ap (λ (f : Form). f.parts) c.requires.form))
+    (c.requires.looked_into c.args.term.now refl) c.addends.ensures.makes _ c.add.ensures.makes
+    c.addends.ensures.simplex c.add.result c.add.ensures.listed
 
 pub returns-clause-ends : goal.returns-clause-ends
 returns-clause-ends g c = unknown_ends c.args.term.now c.requires.fits c.add.result

@@ -6,7 +6,7 @@ use Rattle.esc_simplex.specs.Calls.{IsOfTerm, UnknownEnds}
 use Rattle.esc_simplex.specs.Senses.{term}
 use Rattle.esc_simplex.specs.SimplexUndo.{simplex_undo}
 use Rattle.esc_simplex.specs.SimplexLaws.{simplex_lawful}
-use Rattle.esc_simplex.proofs.Addends.{form_barred, form_ends, itself_of_term, looked_into, opaque_used}
+use Rattle.esc_simplex.proofs.Addends.{form_barred, form_ends, itself_of_term, looked_into, opaque_only, opaque_used}
 use Rattle.esc_simplex.proofs.Making.{makes_kept, makes_more}
 use Rattle.esc_simplex.proofs.simplex.Simplex.unknown.Goals as goal
 
@@ -49,6 +49,11 @@ opaque_unknown-requires-clause-opaque g c = c.is_opaque.ensures.0 c.if-not-is_op
 
 pub returns-in-Ok-clause-parts : goal.returns-in-Ok-clause-parts
 returns-in-Ok-clause-parts g c = opaque_used c.opaque_unknown.new.self c.args.term.now
+    (c.is_opaque.ensures.0 c.if-not-is_opaque.false) c.in-Ok.unknown c.in-Ok.ensures.ok
+
+pub returns-in-Ok-clause-once : goal.returns-in-Ok-clause-once
+returns-in-Ok-clause-once g c = opaque_only c.args.self.now c.opaque_unknown.new.self
+    c.args.term.now c.opaque_unknown.ensures.simplex
     (c.is_opaque.ensures.0 c.if-not-is_opaque.false) c.in-Ok.unknown c.in-Ok.ensures.ok
 
 pub returns-in-Ok-clause-ends : goal.returns-in-Ok-clause-ends
