@@ -1,0 +1,3 @@
+pub mod Kept
+pub mod Rewound
+pub mod Undoables
