@@ -1,5 +1,5 @@
 -- The formula of a fact over closed formulas is closed.
-use Rattle.std.proofs.Common.{◌≡◌, ℕ, Bool, true, false, IsTrue, List, [], ◌∷◌, ◌++◌, length}
+use Rattle.std.proofs.Common.{◌≡◌, ℕ, Bool, true, false, List, [], ◌∷◌, ◌++◌, length}
 use Rattle.std.proofs.Common.{Option}
 use Rattle.std.proofs.Common.{Some, None, not, option_map, refl, sym, ap, subst, ◌∙◌}
 use Rattle.std.proofs.lemmas.Bool.{and_parts, and_from}
@@ -19,13 +19,12 @@ use Rattle.esc_term.specs.Term.{is_ground}
 use Rattle.esc_term.proofs.FormulaLevels.{binds-Eq, binds-Implies, binds-Not, binds-Or}
 use Rattle.esc_term.proofs.GroundTerms.{is_ground-App}
 use Rattle.esc_fact.specs.Base.{Quantified, formulas_in, quantified_in, whole}
-use Rattle.esc_fact.specs.Fact.{IsFact, body_at, brings, closed_at, formula_of, instance_of}
+use Rattle.esc_fact.specs.Fact.{IsFact, body_at, brings, closed_at, instance_of}
 use Rattle.esc_fact.specs.Fact.{kept_of}
 use Rattle.esc_fact.specs.Fact.{select, skolem_of, skolem_terms, store, written_of}
 use Rattle.esc_fact.specs.Laws.{FactIsClosed}
 use Rattle.esc_fact.specs.Legal.{IsClosedBase}
 use Rattle.esc_fact.specs.declared.base.Base.{Base}
-use Rattle.esc_fact.specs.declared.fact.Fact.{Fact}
 use Rattle.esc_fact.specs.declared.fact.Fact.TheVariants as fact
 use Rattle.esc_fact.proofs.Named.{formula_bound, own_count, own_ground, within_bound}
 

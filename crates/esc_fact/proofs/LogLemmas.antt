@@ -5,21 +5,21 @@ use Rattle.std.proofs.lemmas.Map.Views.{Contains-from_any, list_any-from_Contain
 use Rattle.std.specs.List.{list_any}
 use Rattle.indexmap.specs.IndexSet.{insert_key}
 use Rattle.esc_fact.specs.Equal.{same_fact, same_fact-is, same_fact-equivalence}
-use Rattle.esc_fact.specs.Log.{Adds}
+use Rattle.esc_fact.specs.Log.{Logs}
 use Rattle.esc_fact.specs.declared.fact.Fact.{Fact}
 
 pub adds : (old now : List Fact) (fact : Fact) (new : Bool)
     → new ≡ not (list_any (same_fact fact) old) → now ≡ insert_key same_fact old fact
-    → Adds old fact now new
+    → Logs old fact now new
 adds old now fact new answer inserted = by (list_any (same_fact fact) old) refl
   where
-    by : (b : Bool) → list_any (same_fact fact) old ≡ b → Adds old fact now new
-    by true e = subst (Adds old fact now) (sym (answer ∙ ap not e)) (
+    by : (b : Bool) → list_any (same_fact fact) old ≡ b → Logs old fact now new
+    by true e = subst (Logs old fact now) (sym (answer ∙ ap not e)) (
       Contains-from_any (λ x y. (same_fact-is x y).0) fact old e,
       inserted
           ∙ ap (λ b. if b then old else old ++ fact ∷ []) e,
     )
-    by false e = subst (Adds old fact now) (sym (answer ∙ ap not e)) (
+    by false e = subst (Logs old fact now) (sym (answer ∙ ap not e)) (
       λ at. true≢false (sym (list_any-from_Contains same_fact-equivalence fact old at) ∙ e),
       inserted ∙ ap (λ b. if b then old else old ++ fact ∷ []) e,
     )

@@ -1,7 +1,7 @@
 //! The log.
 
 ghost use Rattle.std.specs.Prelude.{◌≡◌, ◌≤◌, [], length, take, IfOk, OnErr};
-ghost use Rattle.esc_fact.specs.Log.{Adds};
+ghost use Rattle.esc_fact.specs.Log.{Logs};
 
 use crate::fact::Fact;
 use indexmap::IndexSet;
@@ -40,7 +40,7 @@ impl FactLog {
     /// Puts the fact at the end, unless it is there, and tells whether it was not. It fails only
     /// where memory is wanting, and then leaves the log as it was.
     pub fn add(&mut self, fact: Fact) -> Result<bool, AllocError>
-        ensures ok { IfOk result (λ new. Adds self.old fact self.new new) }
+        ensures ok { IfOk result (λ new. Logs self.old fact self.new new) }
         ensures err { OnErr result (self.new ≡ self.old) }
     {
         let added = self.facts.insert(fact)?;
