@@ -1,6 +1,6 @@
 -- Each change of the clauses, with the record that takes it back.
-use Rattle.std.proofs.Common.{◌≡◌, ℕ, ◌<◌, true, false, List, [], ◌∷◌, ◌++◌, length, set, get_or, ap}
-use Rattle.std.proofs.Common.{sym, ◌∙◌, arith, length-append}
+use Rattle.std.proofs.Common.{◌≡◌, ℕ, ◌<◌, true, false, List, [], ◌∷◌, ◌++◌, length, set, get_or}
+use Rattle.std.proofs.Common.{ap, sym, ◌∙◌, arith, length-append}
 use Rattle.std.proofs.lemmas.List.{set-set, set-get_or, get_or-set_same, length-set}
 use Rattle.esc_trail.specs.Undo.{Notes}
 use Rattle.esc_trail.proofs.Ends.{take-append_last}
@@ -58,6 +58,7 @@ pub notes_dropped : {Whole : Type 0} (carry : ClauseRec → Whole) (before after
 notes_dropped carry before after entry exit at place left noted there within here =
     let c = clause_at entry at in
     let thinner = with_gone c place true in
+    let went : Member = record { item = (member_at c place).item; gone = true } in
     let same : get_or (set entry.clauses at thinner) at no_clause ≡ thinner =
     get_or-set_same entry.clauses at thinner no_clause there in
     rw left (notes_one clauses_undo carry before after entry (with_clause entry at thinner)
@@ -67,11 +68,9 @@ notes_dropped carry before after entry exit at place left noted there within her
       within = rw same (omega (
         arith,
         within,
-        length-set c place (record {
-          item = (member_at c place).item;
-          gone = true;
-        }),
+        length-set c place went,
       ));
+      gone = rw same (ap (λ (m : Member). m.gone) (get_or-set_same c place went no_member within));
     })
     (ap (λ d. with_clause (with_clause entry at thinner) at (with_gone d place false)) same
     ∙ (ap (λ d. with_clause (with_clause entry at thinner) at d)

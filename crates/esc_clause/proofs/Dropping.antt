@@ -1,17 +1,18 @@
 -- Dropping the items of a clause that fail, from the front.
 use Rattle.std.proofs.Common.{◌≡◌, ℕ, ◌+◌, ◌<◌, ◌≤◌, Bool, true, false, not, ◌&&◌, ◌||◌, List, []}
-use Rattle.std.proofs.Common.{◌∷◌, ◌++◌, length, map, set, take, drop, get_or, refl, ap, sym, ◌∙◌}
-use Rattle.std.proofs.Common.{arith, append_assoc}
-use Rattle.std.proofs.lemmas.List.{append-nil, drop_all, drop_more, get_or-set_same, get_or_at}
-use Rattle.std.proofs.lemmas.List.{length-map, length-take-le, map-append, set-get_or, set-set}
-use Rattle.std.proofs.lemmas.List.{set_at, take_all, take_more}
+use Rattle.std.proofs.Common.{◌∷◌, length, set, refl, ap, sym, ◌∙◌, arith}
+use Rattle.std.proofs.lemmas.Bool.{or_parts}
+use Rattle.std.proofs.lemmas.List.{get_or-set_same, set-get_or, set-set}
+use Rattle.std.specs.List.{list_any}
 use Rattle.esc_trail.specs.Records.{Records}
 use Rattle.esc_trail.specs.Undo.{Notes}
 use Rattle.esc_trail.proofs.Lawful.{equal_is_lawful}
 use Rattle.esc_trail.proofs.Noting.{notes_nothing, notes_both}
+use Rattle.esc_clause.proofs.MappedFront.{mapped_before, mapped_item, mapped_keeps, mapped_sets}
+use Rattle.esc_clause.proofs.MappedFront.{mapped_all}
 use Rattle.esc_clause.specs.ClauseContext.{Clause, ClauseContext, no_clause}
-use Rattle.esc_clause.specs.ClausesUndo.{clauses_undo, clauses_back, CanGoBack, member_at, no_member}
-use Rattle.esc_clause.specs.ClausesUndo.{with_gone}
+use Rattle.esc_clause.specs.ClausesUndo.{clauses_undo, clauses_back, CanGoBack, member_at}
+use Rattle.esc_clause.specs.ClausesUndo.{no_member, with_gone}
 use Rattle.esc_clause.specs.PassesInside.{clause_at, with_clause, is_failing}
 use Rattle.esc_clause.specs.Refinement.{is_no, thinned, thinned_member}
 use Rattle.esc_clause.specs.declared.member.Member.{Member}
@@ -48,65 +49,35 @@ thinned_gone truth m e =
 module _ (truth : Occurrence → Truth) (c : Clause) where
   -- the clause without the items before a place that fail
   abbrev pub thinned_before : ℕ → Clause
-  thinned_before place = map (thinned_member truth) (take place c) ++ drop place c
-
-  abbrev front : ℕ → Clause
-  front place = map (thinned_member truth) (take place c)
-
-  length-front : (place : ℕ) → place < length c → length (front place) ≡ place
-  length-front place l =
-      length-map (take place c) (thinned_member truth) ∙ length-take-le place c (omega (arith, l))
-
-  thinned_here : (place : ℕ) (d : Member) → place < length c
-      → thinned_before place ≡ front place ++ get_or c place d ∷ drop (place + 1) c
-  thinned_here place d l = ap (λ ys. front place ++ ys) (drop_more c place d l)
-
-  thinned_next : (place : ℕ) (d : Member) → place < length c
-      → thinned_before (place + 1)
-      ≡ front place ++ thinned_member truth (get_or c place d) ∷ drop (place + 1) c
-  thinned_next place d l =
-      ap (λ xs. map (thinned_member truth) xs ++ drop (place + 1) c) (take_more c place d l)
-      ∙ ap (λ xs. xs ++ drop (place + 1) c)
-      (map-append (thinned_member truth) (take place c) (get_or c place d ∷ []))
-      ∙ append_assoc (front place) (thinned_member truth (get_or c place d) ∷ [])
-      (drop (place + 1) c)
-
-  pub thinned_item : (place : ℕ) (d : Member) → place < length c
-      → get_or (thinned_before place) place d ≡ get_or c place d
-  thinned_item place d l =
-      ap (λ xs. get_or xs place d) (thinned_here place d l)
-      ∙ get_or_at (front place) (get_or c place d) (drop (place + 1) c) d place
-      (length-front place l)
+  thinned_before = mapped_before (thinned_member truth) c
 
   -- the item has gone, or does not fail, and stays as it is
   pub thinned_keeps : (place : ℕ) → place < length c
       → is_failing truth (member_at c place) ≡ false
       → thinned_before place ≡ thinned_before (place + 1)
   thinned_keeps place l e =
-      thinned_here place no_member l
-      ∙ ap (λ m. front place ++ m ∷ drop (place + 1) c)
-      (sym (thinned_same truth (member_at c place) e))
-      ∙ sym (thinned_next place no_member l)
+      mapped_keeps (thinned_member truth) c place no_member l
+      (thinned_same truth (member_at c place) e)
 
   -- the item fails, and goes
   pub thinned_drops : (place : ℕ) → place < length c
       → is_failing truth (member_at c place) ≡ true
       → with_gone (thinned_before place) place true ≡ thinned_before (place + 1)
   thinned_drops place l e =
-      let m = member_at c place in
       ap (λ n. set (thinned_before place) place (record { item = n.item; gone = true }))
-      (thinned_item place no_member l)
-      ∙ ap (λ xs. set xs place (record { item = m.item; gone = true }))
-      (thinned_here place no_member l)
-      ∙ set_at (front place) m (drop (place + 1) c) (record { item = m.item; gone = true }) place
-      (length-front place l)
-      ∙ ap (λ n. front place ++ n ∷ drop (place + 1) c) (sym (thinned_gone truth m e))
-      ∙ sym (thinned_next place no_member l)
+      (mapped_item (thinned_member truth) c place no_member l)
+      ∙ ap (λ n. set (thinned_before place) place n)
+      (sym (thinned_gone truth (member_at c place) e))
+      ∙ mapped_sets (thinned_member truth) c place no_member l
 
-  pub thinned_all : (place : ℕ) → length c ≤ place → thinned_before place ≡ thinned truth c
-  thinned_all place l =
-      ap (λ xs. map (thinned_member truth) xs ++ drop place c) (take_all place c l)
-      ∙ ap (λ ys. thinned truth c ++ ys) (drop_all place c l) ∙ append-nil (thinned truth c)
+-- no item that is left fails, and none goes
+pub thinned_none : (truth : Occurrence → Truth) (c : Clause)
+    → list_any (is_failing truth) c ≡ false → thinned truth c ≡ c
+thinned_none truth [] e = refl
+thinned_none truth (m ∷ c) e =
+    let neither = or_parts (is_failing truth m) (list_any (is_failing truth) c) e in
+    ap (λ n. n ∷ thinned truth c) (thinned_same truth m neither.0)
+    ∙ ap (λ d. m ∷ d) (thinned_none truth c neither.1)
 
 -- ---- with the trail
 
@@ -142,7 +113,7 @@ module _ {Whole : Type 0} (carry : ClauseRec → Whole) (truth : Occurrence → 
       → member_at (clause_at now at) place ≡ member_at (clause_at old at) place
   Dropping-item now trail place so there l =
       ap (λ (c : Clause). member_at c place) (Dropping-here now trail place so there)
-      ∙ thinned_item truth (clause_at old at) place no_member l
+      ∙ mapped_item (thinned_member truth) (clause_at old at) place no_member l
 
   pub Dropping-keeps : (now : ClauseContext) (trail : Records Whole) (place : ℕ)
       → Dropping carry truth old before now trail at place → at < length old.clauses
@@ -192,4 +163,6 @@ module _ {Whole : Type 0} (carry : ClauseRec → Whole) (truth : Occurrence → 
       → length (clause_at old at) ≤ place
       → now ≡ with_clause old at (thinned truth (clause_at old at))
   Dropping-done now trail place so l =
-      so.thinned ∙ ap (λ d. with_clause old at d) (thinned_all truth (clause_at old at) place l)
+      so.thinned
+      ∙ ap (λ d. with_clause old at d)
+      (mapped_all (thinned_member truth) (clause_at old at) place l)

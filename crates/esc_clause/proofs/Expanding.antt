@@ -6,7 +6,7 @@ use Rattle.std.proofs.lemmas.List.{append-nil}
 use Rattle.std.proofs.lemmas.List.Elements.{All-nil, All-cons, All-head, All-tail}
 use Rattle.std.proofs.lemmas.List.Folds.{Any-from_list_any}
 use Rattle.std.proofs.lemmas.List.Sums.{AllPass-from_list_all}
-use Rattle.std.specs.List.{All, flat_map, list_all, list_any}
+use Rattle.std.specs.List.{All, flat_map, list_any}
 use Rattle.std.specs.Option.{IsSomeAnd, option_map}
 use denote.Hole.Carrier.{roll}
 use Rattle.esc_term.specs.declared.term.Term.{Term}
@@ -19,7 +19,7 @@ use Rattle.esc_term.specs.declared.formula.Item.{Item}
 use Rattle.esc_cover.specs.Atoms.{pair_equations}
 use Rattle.esc_cover.specs.Cover.{Cover}
 use Rattle.esc_cover.proofs.CoverOrder.{GoesByParts}
-use Rattle.esc_cover.proofs.TestLemmas.{or_cases, and_left, and_right, and_both}
+use Rattle.esc_cover.proofs.TestLemmas.{or_cases, and_left, and_right}
 use Rattle.esc_clause.specs.Expansion.{expanded_form, from_place, left_at, parts_at, right_at}
 use Rattle.esc_clause.specs.Laws.{ExpansionIsSo, IsSo}
 use Rattle.esc_clause.specs.Occurrences.{formula_at, occurrences_of, signed, size_of}

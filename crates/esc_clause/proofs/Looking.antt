@@ -4,11 +4,11 @@ use Rattle.std.proofs.Common.{◌∷◌, ◌++◌, Some, length, take, drop, map
 use Rattle.std.proofs.lemmas.List.{drop_more, map-append, take-append-drop, take_more, append-nil}
 use Rattle.std.proofs.lemmas.List.Elements.{filter-append}
 use Rattle.std.proofs.lemmas.List.Folds.{list_any-append}
-use Rattle.std.specs.List.{filter}
+use Rattle.std.specs.List.{filter, list_any}
 use Rattle.esc_cover.proofs.TestLemmas.{or_left, or_right}
 use Rattle.esc_clause.specs.ClauseContext.{Clause, items_left}
 use Rattle.esc_clause.specs.ClausesUndo.{member_at, no_member}
-use Rattle.esc_clause.specs.PassesInside.{stays, with_item}
+use Rattle.esc_clause.specs.PassesInside.{is_failing, stays, with_item}
 use Rattle.esc_clause.specs.Refinement.{first, is_no, is_satisfied, is_yes, left_of, refined_among}
 use Rattle.esc_clause.specs.declared.member.Member.{Member}
 use Rattle.esc_clause.specs.declared.occurrence.Occurrence.{Occurrence}
@@ -104,10 +104,12 @@ module _ (truth : Occurrence → Truth) where
   with_item-among (i ∷ []) item = refl
   with_item-among (i ∷ j ∷ items) item = refl
 
-  -- of the items before a place none holds, and those that do not fail come to what is told
-  pub record Scanning (c : Clause) (place : ℕ) (told : Refined) : Type 0 where
+  -- of the items before a place none holds, those that do not fail come to what is told, and
+  -- whether some fail
+  pub record Scanning (c : Clause) (place : ℕ) (told : Refined) (failing : Bool) : Type 0 where
     pub unsatisfied : is_satisfied truth (items_left (take place c)) ≡ false
     pub comes : told ≡ refined_among (left_of truth (items_left (take place c)) ∷ [])
+    pub fails : failing ≡ list_any (is_failing truth) (take place c)
 
   come_to : (items : List Occurrence) (m : Member) (told : Refined)
       → told ≡ refined_among (items ∷ []) → (b : Bool)
@@ -118,11 +120,18 @@ module _ (truth : Occurrence → Truth) where
   come_to items m told comes false =
       comes ∙ ap (λ xs. refined_among (xs ∷ [])) (sym (append-nil items))
 
-  pub Scanning-more : (c : Clause) (place : ℕ) (told : Refined) → Scanning c place told
-      → place < length c → holds (member_at c place) ≡ false
-      → Scanning c (place + 1) (cond (stays truth (member_at c place))
-      (with_item told (member_at c place).item) told)
-  Scanning-more c place told so l fails =
+  fail_or_not : (failing b : Bool) → cond b true failing ≡ (failing || (b || false))
+  fail_or_not true true = refl
+  fail_or_not true false = refl
+  fail_or_not false true = refl
+  fail_or_not false false = refl
+
+  pub Scanning-more : (c : Clause) (place : ℕ) (told : Refined) (failing : Bool)
+      → Scanning c place told failing → place < length c → holds (member_at c place) ≡ false
+      → Scanning c (place + 1)
+      (cond (stays truth (member_at c place)) (with_item told (member_at c place).item) told)
+      (cond (is_failing truth (member_at c place)) true failing)
+  Scanning-more c place told failing so l fails =
       let m = member_at c place in
       record {
         unsatisfied =
@@ -134,6 +143,11 @@ module _ (truth : Occurrence → Truth) where
         comes =
             come_to (left_of truth (items_left (take place c))) m told so.comes (stays truth m)
             ∙ ap (λ xs. refined_among (xs ∷ [])) (sym (left_of-more c place l));
+        fails =
+            fail_or_not failing (is_failing truth m)
+            ∙ ap (λ b. b || (is_failing truth m || false)) so.fails
+            ∙ sym (list_any-append (is_failing truth) (take place c) (m ∷ []))
+            ∙ ap (list_any (is_failing truth)) (sym (take_more c place no_member l));
       }
 
   -- ---- the first that does not fail

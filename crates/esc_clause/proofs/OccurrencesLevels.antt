@@ -1,5 +1,5 @@
 -- The occurrences of each form of formula.
-use Rattle.std.proofs.Common.{◌≡◌, List, [], ◌∷◌, ◌++◌, map, refl, ap, ◌∙◌}
+use Rattle.std.proofs.Common.{◌≡◌, List, [], ◌∷◌, ◌++◌, map, ap, ◌∙◌}
 use Rattle.std.specs.List.{flat_map}
 use Rattle.esc_term.proofs.Pairs.{first-pairs, flat_map-pairs}
 use denote.Hole.Carrier.{roll}

@@ -1,26 +1,30 @@
 -- Going through the clauses.
-use Rattle.std.proofs.Common.{◌≡◌, ◌⊎◌, inl, ℕ, suc, zero, ◌+◌, ◌<◌, Bool, true, false, not, ◌||◌}
+use Rattle.std.proofs.Common.{◌≡◌, ℕ, ◌+◌, ◌<◌, ◌≤◌, Bool, true, false, not, ◌||◌, cond}
 use Rattle.std.proofs.Common.{if◌then◌else◌, List, [], ◌∷◌, ◌++◌, length, take, drop, set, get_or}
-use Rattle.std.proofs.Common.{map, refl, ap, sym, subst, ◌∙◌, arith}
-use Rattle.std.proofs.lemmas.List.{take_more, drop_more, take-append-drop, map-append, set-get_or}
-use Rattle.std.proofs.lemmas.List.{get_or-drop, drop-set-lt, drop-drop}
+use Rattle.std.proofs.Common.{map, refl, ap, sym, ◌∙◌}
+use Rattle.std.proofs.lemmas.List.{take_more, drop_all, drop_more, take-append-drop, map-append}
+use Rattle.std.proofs.lemmas.List.{set-get_or, take_all}
 use Rattle.std.proofs.lemmas.List.Elements.{filter-append, filter_map-append}
 use Rattle.std.proofs.lemmas.List.Folds.{list_any-append}
-use Rattle.std.specs.List.{AllZip, filter, filter_map, list_any}
+use Rattle.std.specs.List.{filter, filter_map, list_any}
 use Rattle.esc_trail.specs.Undo.{Notes}
 use Rattle.esc_trail.proofs.Lawful.{equal_is_lawful}
 use Rattle.esc_trail.proofs.Noting.{notes_nothing, notes_both}
+use Rattle.esc_clause.proofs.MappedFront.{length-mapped_before, mapped_before, mapped_item}
+use Rattle.esc_clause.proofs.MappedFront.{mapped_more, mapped_sets}
 use Rattle.esc_clause.specs.ClauseContext.{Clause, ClauseContext, items_left, no_clause}
 use Rattle.esc_clause.specs.ClausesUndo.{clauses_undo, clauses_back, CanGoBack}
-use Rattle.esc_clause.specs.PassesInside.{clause_at, waiting_of, joined, IsSettled}
-use Rattle.esc_clause.specs.Refinement.{IsLighter, judged_by, is_satisfied, left_of, thinned}
-use Rattle.esc_clause.specs.Refinement.{is_empty, single, first, unit_among, refined_among, refined}
-use Rattle.esc_clause.specs.Refinement.{split_among}
+use Rattle.esc_clause.specs.PassesInside.{clause_at, joined, waiting_of, with_clause}
+use Rattle.esc_clause.specs.Refinement.{first, is_empty, is_failed, is_no, is_satisfied, is_yes}
+use Rattle.esc_clause.specs.Refinement.{judged_by, left_of, lightened, lightened_among, lighter}
+use Rattle.esc_clause.specs.Refinement.{refined, refined_among, single, split_among, thinned}
+use Rattle.esc_clause.specs.Refinement.{unit_among}
 use Rattle.esc_clause.specs.declared.occurrence.Occurrence.{Occurrence}
 use Rattle.esc_clause.specs.declared.record.ClauseRec.{ClauseRec}
 use Rattle.esc_clause.specs.declared.truth.Refined.{Refined}
-use Rattle.esc_clause.specs.declared.truth.Refined.TheVariants.{Empty, Quiet}
+use Rattle.esc_clause.specs.declared.truth.Refined.TheVariants.{Empty, Quiet, Unit}
 use Rattle.esc_clause.specs.declared.truth.Truth.{Truth}
+use Rattle.esc_clause.specs.declared.truth.Truth.TheVariants.{Yes, No, Open}
 
 pub waiting-append : (truth : Occurrence → Truth) (xs ys : List Clause)
     → waiting_of truth (xs ++ ys) ≡ waiting_of truth xs ++ waiting_of truth ys
@@ -53,13 +57,80 @@ refined-append xs ys =
 
 -- ---- one clause
 
-pub settled_same : (truth : Occurrence → Truth) (old new : ClauseContext) (at : ℕ) → new ≡ old
-    → IsSettled truth old new at
-settled_same truth old new at same = record {
-  clause = clause_at old at;
-  how = inl refl;
-  rest = same ∙ sym (ap (λ cs. record old { clauses = cs }) (set-get_or old.clauses at no_clause));
-}
+-- what holds does not fail
+held_stays : (t : Truth) → is_yes t ≡ true → is_no t ≡ false
+held_stays Yes e = refl
+held_stays No e = cc
+held_stays Open e = cc
+
+left_by : (held fails more : Bool) (item : Occurrence) (items : List Occurrence)
+    → (held ≡ true → fails ≡ false) → (more ≡ true → is_empty items ≡ false)
+    → (held || more) ≡ true → is_empty (cond (not fails) (item ∷ items) items) ≡ false
+left_by held false more item items stays rest e = refl
+left_by true true more item items stays rest e = let never = stays refl in cc
+left_by false true more item items stays rest e = rest e
+
+something_left : (truth : Occurrence → Truth) (items : List Occurrence)
+    → is_satisfied truth items ≡ true → is_empty (left_of truth items) ≡ false
+something_left truth [] e = cc
+something_left truth (i ∷ items) e =
+    left_by (is_yes (truth i)) (is_no (truth i)) (is_satisfied truth items) i
+    (left_of truth items) (held_stays (truth i)) (something_left truth items) e
+
+-- what one clause comes to, by whether it is satisfied and by what does not fail
+abbrev comes_to : Bool → List Occurrence → Refined
+comes_to held items = refined_among (cond (not held) (items ∷ []) [])
+
+failed_if : (held : Bool) (items : List Occurrence) → comes_to held items ≡ Empty
+    → is_empty items ≡ true
+failed_if true items e = cc
+failed_if false [] e = refl
+failed_if false (i ∷ []) e = cc
+failed_if false (i ∷ j ∷ items) e = cc
+
+not_failed : (held : Bool) (items : List Occurrence) → (held ≡ true → is_empty items ≡ false)
+    → (comes_to held items ≡ Empty → ⊥) → is_empty items ≡ false
+not_failed true items left other = left refl
+not_failed false [] left other = absurd (other refl)
+not_failed false (i ∷ items) left other = refl
+
+module _ (truth : Occurrence → Truth) (c : Clause) where
+  pub lightened_satisfied : is_satisfied truth (items_left c) ≡ true → lightened truth c ≡ c
+  lightened_satisfied held = ap (λ b. if b then c else thinned truth c) held
+
+  pub lightened_open : is_satisfied truth (items_left c) ≡ false
+      → lightened truth c ≡ thinned truth c
+  lightened_open waits = ap (λ b. if b then c else thinned truth c) waits
+
+  comes : refined_among (waiting_of truth (c ∷ []))
+      ≡ comes_to (is_satisfied truth (items_left c)) (left_of truth (items_left c))
+  comes = go (is_satisfied truth (items_left c))
+    where
+      go : (held : Bool)
+          → refined_among (map (λ (d : Clause). left_of truth (items_left d))
+          (cond (not held) (c ∷ []) []))
+          ≡ comes_to held (left_of truth (items_left c))
+      go true = refl
+      go false = refl
+
+  pub failed_if_empty : refined_among (waiting_of truth (c ∷ [])) ≡ Empty
+      → is_failed truth c ≡ true
+  failed_if_empty e =
+      failed_if (is_satisfied truth (items_left c)) (left_of truth (items_left c)) (sym comes ∙ e)
+
+  pub not_failed_unless_empty : (refined_among (waiting_of truth (c ∷ [])) ≡ Empty → ⊥)
+      → is_failed truth c ≡ false
+  not_failed_unless_empty other =
+      not_failed (is_satisfied truth (items_left c)) (left_of truth (items_left c))
+      (something_left truth (items_left c)) (λ e. other (comes ∙ e))
+
+-- going through a clause that stays as it is leaves all as it was
+pub lightened_same : (truth : Occurrence → Truth) (old new : ClauseContext) (at : ℕ) → new ≡ old
+    → lightened truth (clause_at old at) ≡ clause_at old at
+    → new ≡ with_clause old at (lightened truth (clause_at old at))
+lightened_same truth old new at same stays =
+    same ∙ sym (ap (λ cs. record old { clauses = cs }) (set-get_or old.clauses at no_clause))
+    ∙ ap (λ c. with_clause old at c) (sym stays)
 
 -- ---- where to split
 
@@ -89,120 +160,165 @@ NoneWaits-found truth cs at d so l fails =
 
 -- ---- what all come to
 
-abbrev pub IsKept : (Occurrence → Truth) → Clause → Clause → Type 0
-IsKept truth before after = (after ≡ before) ⊎ (after ≡ thinned truth before)
+joined-Empty : (told : Refined) → joined told Empty ≡ Empty
+joined-Empty Empty = refl
+joined-Empty Quiet = refl
+joined-Empty (Unit item) = refl
 
-AllKept-same : (truth : Occurrence → Truth) (cs : List Clause) → AllZip (IsKept truth) cs cs
-AllKept-same truth [] = tt
-AllKept-same truth (c ∷ cs) = (inl refl, AllKept-same truth cs)
+-- the clauses before a place are gone through, and none of them has failed
+pub record NoneFailed (truth : Occurrence → Truth) (cs : List Clause) (at : ℕ) : Type 0 where
+  pub ahead :
+      lightened_among truth cs
+      ≡ map (lightened truth) (take at cs) ++ lightened_among truth (drop at cs)
 
-AllZip-set : {X : Type 0} (R : X → X → Type 0) (xs ys : List X) (i : ℕ) (d y : X) → AllZip R xs ys
-    → i < length xs → R (get_or xs i d) y →
-    AllZip R xs (set ys i y)
-AllZip-set R [] ys i d y all l r = absurd (omega (arith, l))
-AllZip-set R (x ∷ xs) [] i d y all l r = absurd all
-AllZip-set R (x ∷ xs) (z ∷ ys) zero d y all l r = (r, all.1)
-AllZip-set R (x ∷ xs) (z ∷ ys) (suc i) d y all l r =
-    (all.0, AllZip-set R xs ys i d y all.1 (omega (arith, l)) r)
+-- one clause more
+ahead_more : (truth : Occurrence → Truth) (cs : List Clause) (at : ℕ) (d : Clause) (b : Bool)
+    → NoneFailed truth cs at → at < length cs → is_failed truth (get_or cs at d) ≡ b
+    → lightened_among truth cs
+    ≡ map (lightened truth) (take (at + 1) cs)
+    ++ (if b then drop (at + 1) cs else lightened_among truth (drop (at + 1) cs))
+ahead_more truth cs at d b so l failed =
+    let behind = drop (at + 1) cs in
+    so.ahead
+    ∙ ap (λ ds. map (lightened truth) (take at cs) ++ lightened_among truth ds)
+    (drop_more cs at d l)
+    ∙ ap (λ f. map (lightened truth) (take at cs)
+    ++ lightened truth (get_or cs at d) ∷ (if f then behind else lightened_among truth behind))
+    failed
+    ∙ sym (mapped_more (lightened truth) cs at d
+    (if b then behind else lightened_among truth behind) l)
 
--- the clauses before a place were settled, and come to what is told
+NoneFailed-all : (truth : Occurrence → Truth) (cs : List Clause) (at : ℕ)
+    → NoneFailed truth cs at → length cs ≤ at
+    → lightened_among truth cs ≡ mapped_before (lightened truth) cs at
+NoneFailed-all truth cs at so l =
+    so.ahead
+    ∙ ap (λ ds. map (lightened truth) (take at cs) ++ lightened_among truth ds) (drop_all at cs l)
+    ∙ sym (ap (λ ds. map (lightened truth) (take at cs) ++ ds) (drop_all at cs l))
+
+-- the clauses before a place were gone through, and come to what is told
 pub record Refining {Whole : Type 0} (carry : ClauseRec → Whole) (judge : Occurrence → Truth)
     (old : ClauseContext) (before : List Whole) (now : ClauseContext) (after : List Whole) (at : ℕ)
     (told : Refined) : Type 0 where
-  pub lighter : IsLighter judge old now
-  pub rest : drop at now.clauses ≡ drop at old.clauses
+  pub lighter : now ≡ record old {
+    clauses = mapped_before (lightened (judged_by judge old.decisions)) old.clauses at;
+  }
   pub so_far : told ≡ refined_among
       (waiting_of (judged_by judge old.decisions) (take at old.clauses))
   pub undo : Notes clauses_undo carry before after old now
 
-pub Refining-starts : {Whole : Type 0} (carry : ClauseRec → Whole) (judge : Occurrence → Truth)
-    (old : ClauseContext) (before after : List Whole) → after ≡ before
-    → Refining carry judge old before old after 0 Quiet
-Refining-starts carry judge old before after kept = record {
-  lighter =
-      record {
-        decisions = refl;
-        clauses =
-            AllKept-same (judged_by judge old.decisions) old.clauses;
-      };
-  rest = refl;
-  so_far = refl;
-  undo = notes_nothing clauses_undo carry before after old old kept refl;
-}
+module _ {Whole : Type 0} (carry : ClauseRec → Whole) (judge : Occurrence → Truth)
+    (old : ClauseContext) (before : List Whole) where
+  abbrev truth : Occurrence → Truth
+  truth = judged_by judge old.decisions
 
-pub Refining-here : {Whole : Type 0} (carry : ClauseRec → Whole) (judge : Occurrence → Truth)
-    (old : ClauseContext) (before : List Whole) (now : ClauseContext) (after : List Whole) (at : ℕ)
-    (told : Refined) →
-    Refining carry judge old before now after at told → clause_at now at ≡ clause_at old at
-Refining-here carry judge old before now after at told so =
-    let reads : (cs : List Clause) → get_or (drop at cs) 0 no_clause ≡ get_or cs at no_clause =
-    λ cs. get_or-drop at cs 0 no_clause ∙ ap (λ n. get_or cs n no_clause) (omega arith) in
-    sym (reads now.clauses) ∙ (ap (λ cs. get_or cs 0 no_clause) so.rest ∙ reads old.clauses)
+  -- what holds between two clauses
+  abbrev pub Passing : ClauseContext → List Whole → ℕ → Refined → Type 0
+  Passing now after at told =
+      Refining carry judge old before now after at told × NoneFailed truth old.clauses at
 
-kept_next : (truth : Occurrence → Truth) (here there clause : Clause) → here ≡ there
-    → IsKept truth here clause → IsKept truth there clause
-kept_next truth here there clause e kept = subst (λ c. IsKept truth c clause) e kept
-
-pub Refining-more : {Whole : Type 0} (carry : ClauseRec → Whole) (judge : Occurrence → Truth)
-    (old : ClauseContext) (before : List Whole) (now : ClauseContext) (after : List Whole) (at : ℕ)
-    (told : Refined)
-    (later : ClauseContext) (longer : List Whole) (here both : Refined) →
-    Refining carry judge old before now after at told → at < length old.clauses
-    → both ≡ joined told here →
-    here ≡ refined_among (waiting_of (judged_by judge now.decisions) (clause_at now at ∷ [])) →
-    IsSettled (judged_by judge now.decisions) now later at
-    → Notes clauses_undo carry after longer now later →
-    Refining carry judge old before later longer (at + 1) both
-Refining-more carry judge old before now after at told later longer here both so l joins
-    comes settled undo =
-    let truth = judged_by judge old.decisions in
-    let same : clause_at now at ≡ clause_at old at =
-    Refining-here carry judge old before now after at told so in
-    let settles : IsSettled truth now later at =
-    subst (λ ds. IsSettled (judged_by judge ds) now later at) so.lighter.decisions settled in
-    let is : here ≡ refined_among (waiting_of truth (clause_at old at ∷ [])) =
-    comes ∙ (ap (λ ds. refined_among (waiting_of (judged_by judge ds) (clause_at now at ∷ [])))
-    so.lighter.decisions
-    ∙ ap (λ c. refined_among (waiting_of truth (c ∷ []))) same) in
-    let clauses : later.clauses ≡ set now.clauses at settles.clause =
-    ap (λ (v : ClauseContext). v.clauses) settles.rest in
+  pub Refining-starts : (after : List Whole) → after ≡ before → Passing old after 0 Quiet
+  Refining-starts after kept = (
     record {
-      lighter = record {
-        decisions = ap (λ (v : ClauseContext). v.decisions) settles.rest ∙ so.lighter.decisions;
-        clauses = subst (λ cs. AllZip (IsKept truth) old.clauses cs) (sym clauses)
-            (AllZip-set (IsKept truth) old.clauses now.clauses at no_clause settles.clause
-            so.lighter.clauses l
-            (kept_next truth (clause_at now at)
-            (clause_at old at) settles.clause same settles.how));
-      };
-      rest =
-          ap (λ cs. drop (at + 1) cs) clauses
-          ∙ (drop-set-lt (at + 1) now.clauses at settles.clause (omega arith)
-          ∙ (sym (drop-drop 1 at now.clauses)
-          ∙ (ap (λ cs. drop 1 cs) so.rest ∙ drop-drop 1 at old.clauses)));
-      so_far =
-          joins ∙ (ap (λ t. joined t here) so.so_far
-          ∙ (ap (λ h. joined (refined_among (waiting_of truth (take at old.clauses))) h) is
-          ∙ (sym (refined-append (waiting_of truth (take at old.clauses))
-          (waiting_of truth (clause_at old at ∷ [])))
-          ∙ ap refined_among (sym (waiting_more truth old.clauses at no_clause l)))));
-      undo =
-          notes_both clauses_undo
-          (equal_is_lawful clauses_back CanGoBack) carry before after longer old now
-          later so.undo undo;
-    }
+      lighter = refl;
+      so_far = refl;
+      undo = notes_nothing clauses_undo carry before after old old kept refl;
+    },
+    record { ahead = refl },
+  )
 
-pub Refining-empty : {Whole : Type 0} (carry : ClauseRec → Whole) (judge : Occurrence → Truth)
-    (old : ClauseContext) (before : List Whole) (now : ClauseContext) (after : List Whole) (at : ℕ)
-    (told : Refined) →
-    Refining carry judge old before now after at told → told ≡ Empty → told ≡ refined judge old
-Refining-empty carry judge old before now after at told so empty =
-    let truth = judged_by judge old.decisions in
-    let front : refined_among (waiting_of truth (take at old.clauses)) ≡ Empty =
-    sym so.so_far ∙ empty in
-    empty ∙ sym (ap (λ cs. refined_among (waiting_of truth cs))
-    (sym (take-append-drop at old.clauses))
-    ∙ (ap refined_among (waiting-append truth (take at old.clauses) (drop at old.clauses))
-    ∙ (refined-append (waiting_of truth (take at old.clauses))
-    (waiting_of truth (drop at old.clauses))
-    ∙ ap (λ r. joined r (refined_among (waiting_of truth (drop at old.clauses)))) front)))
+  module _ (now : ClauseContext) (after : List Whole) (at : ℕ) (told : Refined) where
+    pub Refining-length : Refining carry judge old before now after at told
+        → length now.clauses ≡ length old.clauses
+    Refining-length so =
+        ap (λ (v : ClauseContext). length v.clauses) so.lighter
+        ∙ length-mapped_before (lightened truth) old.clauses at
+
+    here_as_it_was : Refining carry judge old before now after at told → at < length old.clauses
+        → clause_at now at ≡ clause_at old at
+    here_as_it_was so l =
+        ap (λ (v : ClauseContext). clause_at v at) so.lighter
+        ∙ mapped_item (lightened truth) old.clauses at no_clause l
+
+    pub Refining-told : Refining carry judge old before now after at told
+        → length old.clauses ≤ at → told ≡ refined judge old
+    Refining-told so l =
+        so.so_far
+        ∙ ap (λ cs. refined_among (waiting_of truth cs)) (take_all at old.clauses l)
+
+    pub Refining-done : Passing now after at told → length old.clauses ≤ at
+        → now ≡ lighter judge old
+    Refining-done so l =
+        so.0.lighter
+        ∙ ap (λ cs. record old { clauses = cs })
+        (sym (NoneFailed-all truth old.clauses at so.1 l))
+
+    module _ (later : ClauseContext) (longer : List Whole) (here both : Refined)
+        (so : Passing now after at told) (l : at < length old.clauses)
+        (joins : both ≡ joined told here)
+        (comes : here ≡ refined_among
+        (waiting_of (judged_by judge now.decisions) (clause_at now at ∷ [])))
+        (settled : later ≡ with_clause now at
+        (lightened (judged_by judge now.decisions) (clause_at now at)))
+        (undo : Notes clauses_undo carry after longer now later) where
+      is : here ≡ refined_among (waiting_of truth (clause_at old at ∷ []))
+      is =
+          comes
+          ∙ ap (λ (v : ClauseContext). refined_among (waiting_of (judged_by judge v.decisions)
+          (clause_at now at ∷ []))) so.0.lighter
+          ∙ ap (λ c. refined_among (waiting_of truth (c ∷ []))) (here_as_it_was so.0 l)
+
+      pub Refining-more : Refining carry judge old before later longer (at + 1) both
+      Refining-more = record {
+        lighter =
+            settled
+            ∙ ap (λ (v : ClauseContext). with_clause v at
+            (lightened (judged_by judge v.decisions) (clause_at now at))) so.0.lighter
+            ∙ ap (λ c. record old {
+              clauses =
+                  set (mapped_before (lightened truth) old.clauses at) at (lightened truth c);
+            }) (here_as_it_was so.0 l)
+            ∙ ap (λ cs. record old { clauses = cs })
+            (mapped_sets (lightened truth) old.clauses at no_clause l);
+        so_far =
+            joins ∙ ap (λ t. joined t here) so.0.so_far
+            ∙ ap (λ h. joined (refined_among (waiting_of truth (take at old.clauses))) h) is
+            ∙ sym (refined-append (waiting_of truth (take at old.clauses))
+            (waiting_of truth (clause_at old at ∷ [])))
+            ∙ ap refined_among (sym (waiting_more truth old.clauses at no_clause l));
+        undo =
+            notes_both clauses_undo (equal_is_lawful clauses_back CanGoBack) carry before after
+            longer old now later so.0.undo undo;
+      }
+
+      pub Passing-more : (here ≡ Empty → ⊥) → Passing later longer (at + 1) both
+      Passing-more other = (
+        Refining-more,
+        record {
+          ahead = ahead_more truth old.clauses at no_clause false so.1 l
+              (not_failed_unless_empty truth (clause_at old at) (λ e. other (is ∙ e)));
+        },
+      )
+
+      -- the clause has failed, and those behind it are as they were
+      pub Refining-stops : here ≡ Empty → later ≡ lighter judge old
+      Refining-stops empty =
+          Refining-more.lighter
+          ∙ ap (λ cs. record old { clauses = cs })
+          (sym (ahead_more truth old.clauses at no_clause true so.1 l
+          (failed_if_empty truth (clause_at old at) (sym is ∙ empty))))
+
+      -- and so all have
+      pub Refining-empty : here ≡ Empty → both ≡ refined judge old
+      Refining-empty empty =
+          let told_empty : both ≡ Empty =
+          joins ∙ ap (λ h. joined told h) empty ∙ joined-Empty told in
+          let n = at + 1 in
+          let behind = refined_among (waiting_of truth (drop n old.clauses)) in
+          told_empty
+          ∙ sym (ap (λ cs. refined_among (waiting_of truth cs))
+          (sym (take-append-drop n old.clauses))
+          ∙ ap refined_among (waiting-append truth (take n old.clauses) (drop n old.clauses))
+          ∙ refined-append (waiting_of truth (take n old.clauses))
+          (waiting_of truth (drop n old.clauses))
+          ∙ ap (λ r. joined r behind) (sym Refining-more.so_far ∙ told_empty))

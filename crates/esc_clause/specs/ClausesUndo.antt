@@ -1,5 +1,6 @@
 -- How clauses take records back.
-use Rattle.std.specs.Prelude.{◌≡◌, ℕ, ◌-◌, ◌<◌, Bool, false, length, take, slice_index_or, slice_set}
+use Rattle.std.specs.Prelude.{◌≡◌, ℕ, ◌-◌, ◌<◌, Bool, true, false, length, take}
+use Rattle.std.specs.Prelude.{slice_index_or, slice_set}
 use Rattle.esc_trail.specs.Undo.{Undo}
 use Rattle.esc_clause.specs.ClauseContext.{Clause, ClauseContext, new_member, no_clause}
 use Rattle.esc_clause.specs.declared.member.Member.{Member}
@@ -28,14 +29,15 @@ clauses_back v (Dropped at place) =
     }
 clauses_back v Decided = record v { decisions = take (length v.decisions - 1) v.decisions }
 
--- the clause is there, and has the place
-pub record HasPlace (v : ClauseContext) (at place : ℕ) : Type 0 where
+-- the clause is there and has the place, and the item there has gone
+pub record HasGone (v : ClauseContext) (at place : ℕ) : Type 0 where
   pub there : at < length v.clauses
   pub within : place < length (slice_index_or v.clauses at no_clause)
+  pub gone : (member_at (slice_index_or v.clauses at no_clause) place).gone ≡ true
 
 abbrev pub CanGoBack : ClauseContext → ClauseRec → Type 0
 CanGoBack v Added = 0 < length v.clauses
-CanGoBack v (Dropped at place) = HasPlace v at place
+CanGoBack v (Dropped at place) = HasGone v at place
 CanGoBack v Decided = 0 < length v.decisions
 
 abbrev pub clauses_undo : Undo ClauseContext ClauseRec

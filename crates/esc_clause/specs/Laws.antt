@@ -6,6 +6,7 @@ use Rattle.esc_term.specs.declared.term.Term.{Term}
 use Rattle.esc_term.specs.declared.formula.Formula.{Formula}
 use Rattle.esc_term.specs.declared.formula.Item.{Item}
 use Rattle.esc_term.specs.Model.{Model}
+use Rattle.esc_cover.specs.Counterexample.{IsConsistent}
 use Rattle.esc_cover.specs.Cover.{cover}
 use Rattle.esc_cover.specs.Laws.{HoldsIn}
 use Rattle.esc_clause.specs.Expansion.{Expansion, AllOf, OneOfEach, Never, Literal, expanded}
@@ -43,6 +44,11 @@ abbrev pub SaysNothingTwice : List Item → List (List Term) → Type 0
 SaysNothingTwice literals classes =
     (f : Formula) → IsTrue (cover literals classes f).holds
     → IsTrue (cover literals classes f).fails → ⊥
+
+-- consistent literals and classes say nothing twice
+abbrev pub ConsistentSaysNothingTwice : Type 0
+ConsistentSaysNothingTwice = (literals : List Item) (classes : List (List Term))
+    → IsConsistent literals classes → SaysNothingTwice literals classes
 
 -- where literals and classes cover what a formula that is there expands to, they cover the formula,
 -- unless it is a literal

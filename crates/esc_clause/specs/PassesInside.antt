@@ -1,9 +1,9 @@
 -- How clauses are gone through.
-use Rattle.std.specs.Prelude.{◌≡◌, ◌⊎◌, ℕ, Bool, true, false, not, ◌&&◌, List, [], ◌∷◌, map}
+use Rattle.std.specs.Prelude.{◌≡◌, ℕ, Bool, true, false, not, ◌&&◌, List, [], ◌∷◌, map}
 use Rattle.std.specs.Prelude.{slice_index_or, slice_set}
-use Rattle.std.specs.List.{filter}
+use Rattle.std.specs.List.{filter, list_any}
 use Rattle.esc_clause.specs.ClauseContext.{Clause, ClauseContext, items_left, no_clause}
-use Rattle.esc_clause.specs.Refinement.{is_no, is_satisfied, left_of, refined_among, thinned}
+use Rattle.esc_clause.specs.Refinement.{is_no, is_satisfied, left_of, refined_among}
 use Rattle.esc_clause.specs.declared.clauses.look.Look.{Look}
 use Rattle.esc_clause.specs.declared.clauses.look.Look.TheVariants.{Satisfied, Failing, Waiting}
 use Rattle.esc_clause.specs.declared.member.Member.{Member}
@@ -22,16 +22,18 @@ is_failing truth m = not m.gone && is_no (truth m.item)
 abbrev pub stays : (Occurrence → Truth) → Member → Bool
 stays truth m = not m.gone && not (is_no (truth m.item))
 
--- no item that is left holds, and those that do not fail come to what is told
-pub record TellsOpen (truth : Occurrence → Truth) (c : Clause) (told : Refined) : Type 0 where
+-- no item that is left holds, those that do not fail come to what is told, and whether some fail
+pub record TellsOpen (truth : Occurrence → Truth) (c : Clause) (told : Refined) (failing : Bool)
+    : Type 0 where
   pub unsatisfied : is_satisfied truth (items_left c) ≡ false
   pub comes : told ≡ refined_among (left_of truth (items_left c) ∷ [])
+  pub fails : failing ≡ list_any (is_failing truth) c
 
 -- what a look at a clause tells
 abbrev pub LookTells : (Occurrence → Truth) → Clause → Look → Type 0
 LookTells truth c (Satisfied place) = is_satisfied truth (items_left c) ≡ true
-LookTells truth c (Failing told) = TellsOpen truth c told
-LookTells truth c (Waiting told) = TellsOpen truth c told
+LookTells truth c (Failing told) = TellsOpen truth c told true
+LookTells truth c (Waiting told) = TellsOpen truth c told false
 
 -- what a clause comes to with one more item that does not fail
 abbrev pub with_item : Refined → Occurrence → Refined
@@ -60,9 +62,3 @@ joined refined_as.Quiet there = there
 joined (refined_as.Unit item) refined_as.Empty = refined_as.Empty
 joined (refined_as.Unit item) refined_as.Quiet = refined_as.Unit item
 joined (refined_as.Unit item) (refined_as.Unit other) = refined_as.Unit item
-
--- one clause stands as it was, or without the items that fail
-pub record IsSettled (truth : Occurrence → Truth) (old new : ClauseContext) (at : ℕ) : Type 0 where
-  pub clause : Clause
-  pub how : (clause ≡ clause_at old at) ⊎ (clause ≡ thinned truth (clause_at old at))
-  pub rest : new ≡ with_clause old at clause

@@ -1,8 +1,8 @@
 -- What clauses come to, by the decisions and by what a judge says of the items that were not
 -- decided.
-use Rattle.std.specs.Prelude.{◌≡◌, ◌⊎◌, ◌==◌, Bool, true, false, not, ◌&&◌, if◌then◌else◌, List, []}
-use Rattle.std.specs.Prelude.{◌∷◌, ◌||◌, map, Option, Some, None}
-use Rattle.std.specs.List.{AllZip, filter, filter_map, list_any}
+use Rattle.std.specs.Prelude.{◌≡◌, ◌==◌, ℕ, Bool, true, false, not, ◌&&◌, if◌then◌else◌, List, []}
+use Rattle.std.specs.Prelude.{◌∷◌, ◌++◌, ◌||◌, drop, map, take, Option, Some, None}
+use Rattle.std.specs.List.{filter, filter_map, list_any}
 use Rattle.esc_clause.specs.ClauseContext.{Clause, ClauseContext, items_left}
 use Rattle.esc_clause.specs.declared.decision.Decision.{Decision}
 use Rattle.esc_clause.specs.declared.member.Member.{Member}
@@ -110,8 +110,29 @@ thinned_member truth m = record { item = m.item; gone = m.gone || is_no (truth m
 abbrev pub thinned : (Occurrence → Truth) → Clause → Clause
 thinned truth = map (thinned_member truth)
 
--- the clauses stand, some of them without the items that fail
+-- the clause as it is where an item of it holds, and else without the items that fail
+abbrev pub lightened : (Occurrence → Truth) → Clause → Clause
+lightened truth c = if is_satisfied truth (items_left c) then c else thinned truth c
+
+-- each item that is left fails
+abbrev pub is_failed : (Occurrence → Truth) → Clause → Bool
+is_failed truth c = is_empty (left_of truth (items_left c))
+
+-- each clause lightened, from the front up to the first that has failed, and the others as they are
+abbrev pub lightened_among : (Occurrence → Truth) → List Clause → List Clause
+lightened_among truth [] = []
+lightened_among truth (c ∷ cs) =
+    lightened truth c ∷ (if is_failed truth c then cs else lightened_among truth cs)
+
+-- what stands once the clauses were gone through, as far as the first that has failed
+abbrev pub lighter : (Occurrence → Truth) → ClauseContext → ClauseContext
+lighter judge v = record v { clauses = lightened_among (judged_by judge v.decisions) v.clauses }
+
+-- some clauses were gone through, from the front on
 pub record IsLighter (judge : Occurrence → Truth) (old new : ClauseContext) : Type 0 where
-  pub decisions : new.decisions ≡ old.decisions
-  pub clauses : AllZip (λ before after. (after ≡ before)
-      ⊎ (after ≡ thinned (judged_by judge old.decisions) before)) old.clauses new.clauses
+  pub count : ℕ
+  pub lighter : new ≡ record old {
+    clauses =
+        map (lightened (judged_by judge old.decisions)) (take count old.clauses)
+        ++ drop count old.clauses;
+  }

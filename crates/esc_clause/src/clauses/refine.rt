@@ -5,8 +5,8 @@ ghost use Rattle.std.specs.Prelude.{IfOk};
 ghost use Rattle.esc_trail.specs.Undo.{Notes};
 ghost use Rattle.esc_clause.specs.ClausesUndo.{clauses_undo, member_at, with_gone};
 ghost use Rattle.esc_clause.specs.PassesInside.{clause_at, with_clause, waiting_of, joined};
-ghost use Rattle.esc_clause.specs.PassesInside.{IsSettled};
-ghost use Rattle.esc_clause.specs.Refinement.{IsLighter, judged_by, refined, refined_among, thinned};
+ghost use Rattle.esc_clause.specs.Refinement.{IsLighter, judged_by, lightened, lighter, refined};
+ghost use Rattle.esc_clause.specs.Refinement.{refined_among, thinned};
 
 use crate::clauses::Clauses;
 use crate::clauses::look::Look;
@@ -83,8 +83,10 @@ impl Clauses {
         ensures exact { IfOk result (λ r. r
             ≡ refined_among (waiting_of (judged_by (J.judged judge.now) self.old.decisions)
             (clause_at self.old at ∷ []))) }
-        ensures settled { OnOk result (IsSettled (judged_by (J.judged judge.now) self.old.decisions)
-            self.old self.new at) }
+        ensures ok { OnOk result (self.new ≡ with_clause self.old at
+            (lightened (judged_by (J.judged judge.now) self.old.decisions)
+            (clause_at self.old at))) }
+        ensures err { OnErr result (self.new ≡ self.old) }
         ensures undo { Notes clauses_undo R.carried trail.old.records trail.new.records
             self.old self.new }
     {
@@ -101,16 +103,17 @@ impl Clauses {
         }
     }
 
-    /// What the clauses come to, by the decisions and by the judge. Items that fail may be dropped,
-    /// from clauses that are not satisfied. It fails only where memory is wanting, and then too
-    /// what was dropped is noted.
+    /// What the clauses come to, by the decisions and by the judge. The items that fail are dropped
+    /// from each clause that is not satisfied, up to the first of which no item is left. It fails
+    /// only where memory is wanting, and then some clauses were gone through, from the front on.
     pub fn refine<J: Judge, R: Carries<ClauseRec>>(
         &mut self,
         judge: &J,
         trail: &mut Trail<R>,
     ) -> Result<Refined, AllocError>
         ensures exact { IfOk result (λ r. r ≡ refined (J.judged judge.now) self.old) }
-        ensures lighter { OnOk result (IsLighter (J.judged judge.now) self.old self.new) }
+        ensures ok { OnOk result (self.new ≡ lighter (J.judged judge.now) self.old) }
+        ensures err { OnErr result (IsLighter (J.judged judge.now) self.old self.new) }
         ensures undo { Notes clauses_undo R.carried trail.old.records trail.new.records
             self.old self.new }
     {
@@ -118,7 +121,7 @@ impl Clauses {
         'clauses: for at in 0..self.clauses.len() {
             let here = self.settle(judge, at, trail)?;
             told = joined(told, here);
-            if told.is_empty() {
+            if here.is_empty() {
                 return Ok(told);
             }
         }

@@ -1,10 +1,11 @@
-use Rattle.std.proofs.Common.{◌<◌, length, refl, arith}
+use Rattle.std.proofs.Common.{◌<◌, ◌≤◌, length, refl, arith}
 use Rattle.std.proofs.lemmas.Grind.{common_steps}
-use Rattle.std.proofs.lemmas.List.Elements.{length_all_zip}
 use Rattle.esc_trail.proofs.Lawful.{equal_is_lawful}
 use Rattle.esc_trail.proofs.Noting.{notes_both}
 use Rattle.esc_clause.specs.ClausesUndo.{clauses_undo, clauses_back, CanGoBack}
-use Rattle.esc_clause.proofs.Refining.{Refining-starts, Refining-more, Refining-empty}
+use Rattle.esc_clause.proofs.Refining.{Passing-more, Refining-empty, Refining-length, Refining-more}
+use Rattle.esc_clause.proofs.Refining.{Refining-done, Refining-starts, Refining-stops}
+use Rattle.esc_clause.proofs.Refining.{Refining-told}
 use Rattle.esc_clause.proofs.clauses.Clauses.refine.Goals as goal
 
 pub clauses-init : goal.clauses-init
@@ -13,37 +14,54 @@ clauses-init g c = Refining-starts g.R.Carries.carried _ c.args.self.now _ _ ref
 pub settle-requires : goal.settle-requires
 settle-requires g c =
     let there : c.clauses.at < length c.args.self.now.clauses = grind (arith, common_steps) in
-    omega (arith, length_all_zip _ _ _ c.clauses.invariant.lighter.clauses)
+    omega (
+      arith,
+      there,
+      Refining-length g.R.Carries.carried _ c.args.self.now _ _ _ _ _
+          c.clauses.invariant.0,
+    )
 
 pub returns-in_err-here-clause-undo : goal.returns-in_err-here-clause-undo
 returns-in_err-here-clause-undo g c =
     notes_both clauses_undo (equal_is_lawful clauses_back CanGoBack) g.R.Carries.carried _ _ _ _ _
-    _ c.clauses.invariant.undo c.settle.ensures.undo
+    _ c.clauses.invariant.0.undo c.settle.ensures.undo
 
 pub returns-then-is_empty : goal.returns-then-is_empty
 returns-then-is_empty g c =
     let there : c.clauses.at < length c.args.self.now.clauses = grind (arith, common_steps) in
-    let step =
-    Refining-more g.R.Carries.carried
-    (g.J.Judge.judged c.args.judge.now) c.args.self.now c.args.trail.now.records
-    c.clauses.self c.clauses.trail.records c.clauses.at c.clauses.told c.settle.new.self
-    c.settle.new.trail.records c.in_ok-here.here c.joined-told.result
-    c.clauses.invariant there c.joined-told.ensures c.in_ok-here.ensures.exact
-    c.in_ok-here.ensures.settled c.settle.ensures.undo in
+    let empty = c.is_empty.ensures.0 c.if-is_empty.true in
     record {
       exact =
-          Refining-empty g.R.Carries.carried _ _ _ _ _ _ _ step
-          (c.is_empty.ensures.0 c.if-is_empty.true);
-      lighter = step.lighter;
-      undo = step.undo;
+          Refining-empty g.R.Carries.carried _ c.args.self.now _ _ _ _ _ _ _ _ _
+          c.clauses.invariant there c.joined-told.ensures c.in_ok-here.ensures.exact
+          c.in_ok-here.ensures.ok c.settle.ensures.undo empty;
+      ok =
+          Refining-stops g.R.Carries.carried _ c.args.self.now _ _ _ _ _ _ _ _ _
+          c.clauses.invariant there c.joined-told.ensures c.in_ok-here.ensures.exact
+          c.in_ok-here.ensures.ok c.settle.ensures.undo empty;
+      err = tt;
+      undo =
+          (Refining-more g.R.Carries.carried _ c.args.self.now _ _ _ _ _ _ _ _ _
+          c.clauses.invariant there c.joined-told.ensures c.in_ok-here.ensures.exact
+          c.in_ok-here.ensures.ok c.settle.ensures.undo).undo;
     }
 
 pub clauses-preserved : goal.clauses-preserved
 clauses-preserved g c =
     let there : c.clauses.at < length c.args.self.now.clauses = grind (arith, common_steps) in
-    Refining-more g.R.Carries.carried
-    (g.J.Judge.judged c.args.judge.now) c.args.self.now c.args.trail.now.records
-    c.clauses.self c.clauses.trail.records c.clauses.at c.clauses.told c.settle.new.self
-    c.settle.new.trail.records c.in_ok-here.here c.joined-told.result
+    Passing-more g.R.Carries.carried (g.J.Judge.judged c.args.judge.now) c.args.self.now
+    c.args.trail.now.records c.clauses.self c.clauses.trail.records c.clauses.at c.clauses.told
+    c.settle.new.self c.settle.new.trail.records c.in_ok-here.here c.joined-told.result
     c.clauses.invariant there c.joined-told.ensures c.in_ok-here.ensures.exact
-    c.in_ok-here.ensures.settled c.settle.ensures.undo
+    c.in_ok-here.ensures.ok c.settle.ensures.undo
+    (λ e. let empty = c.is_empty.ensures.1 e in cc)
+
+pub returns-clause-exact : goal.returns-clause-exact
+returns-clause-exact g c =
+    let past : length c.args.self.now.clauses ≤ c.clauses.at = grind (arith, common_steps) in
+    Refining-told g.R.Carries.carried _ c.args.self.now _ _ _ _ _ c.clauses.invariant.0 past
+
+pub returns-clause-ok : goal.returns-clause-ok
+returns-clause-ok g c =
+    let past : length c.args.self.now.clauses ≤ c.clauses.at = grind (arith, common_steps) in
+    Refining-done g.R.Carries.carried _ c.args.self.now _ _ _ _ _ c.clauses.invariant past
