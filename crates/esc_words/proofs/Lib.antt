@@ -1,0 +1,11 @@
+mod Answering
+mod BuiltCommand
+mod Fresh
+mod Lookups
+mod Looks
+mod Reading
+mod Rows
+mod Steps
+mod Taking
+mod Turns
+mod Walks

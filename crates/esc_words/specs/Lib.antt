@@ -1,0 +1,4 @@
+pub mod CommandInside
+pub mod FoundInside
+pub mod Uses
+pub mod Words
