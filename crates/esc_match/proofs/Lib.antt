@@ -1,0 +1,14 @@
+pub mod ClassLists
+pub mod Coarser
+pub mod Firsts
+pub mod GrownLevels
+pub mod Growth
+pub mod Inside
+pub mod Listed
+pub mod Orders
+pub mod Own
+pub mod Steps
+pub mod Substitutions
+pub mod TermMatches
+pub mod Triggers
+pub mod Walks

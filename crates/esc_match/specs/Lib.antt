@@ -1,0 +1,10 @@
+pub mod CandidatesInside
+pub mod DigestInside
+pub mod Equal
+pub mod Laws
+pub mod Match
+pub mod Matches
+pub mod OfTerms
+pub mod Order
+pub mod SubstitutionsInside
+pub mod WaysInside
