@@ -1,0 +1,11 @@
+pub mod Admitted
+pub mod ArithmeticInside
+pub mod ArithmeticLaws
+pub mod Calls
+pub mod Literals
+pub mod Nodes
+pub mod Numbers
+pub mod Shared
+pub mod SettlingInside
+pub mod SharingUndo
+pub mod Stops

@@ -1,0 +1,104 @@
+-- What holds while graph and theory tell each other equalities, and what each step leaves.
+use Rattle.std.specs.Prelude.{◌≡◌, ◌↔◌, ℕ, ◌<◌, Bool, IsTrue, List, ◌++◌, length, Result, Ok}
+use Rattle.std.specs.Prelude.{Err}
+use Rattle.std.specs.List.{Contains}
+use Rattle.esc_term.specs.declared.term.Term.{Term}
+use Rattle.esc_term.specs.declared.formula.Item.{Item}
+use Rattle.esc_cover.specs.Assignment.{Assignment}
+use Rattle.esc_cover.specs.Least.{IsCongruent}
+use Rattle.esc_trail.specs.Undo.{Notes, Undo}
+use Rattle.esc_union.specs.Merges.{Merged, SameClass, class_number}
+use Rattle.esc_nodes.specs.Nodes.{Shape}
+use Rattle.esc_nodes.specs.Terms.{term_of, terms_of}
+use Rattle.esc_egraph.specs.Graph.{Graph, number_of}
+use Rattle.esc_egraph.specs.declared.state.State.{State}
+use Rattle.esc_egraph.specs.declared.state.State.TheVariants.{Open, Closed}
+use Rattle.esc_simplex.specs.Senses.{Sense}
+use Rattle.esc_simplex.specs.declared.stop.Stop.{Stop}
+use Rattle.esc_simplex.specs.declared.stop.Stop.TheVariants as stop
+use Rattle.esc_sharing.specs.Admitted.{AgreesOn, AreEqualBy}
+use Rattle.esc_sharing.specs.Calls.{TellsMore}
+use Rattle.esc_sharing.specs.Nodes.{node_term}
+use Rattle.esc_sharing.specs.Numbers.{AddsMade, IsNumber, number_terms}
+use Rattle.esc_sharing.specs.Shared.{AdmitsAll, AreParts, HaveNoModel, IsUnderway, Shared}
+use Rattle.esc_sharing.specs.Shared.{literals_in}
+use Rattle.esc_sharing.specs.SharingUndo.{sharing_undo}
+use Rattle.esc_sharing.specs.declared.literal.Lit.{Lit}
+use Rattle.esc_sharing.specs.declared.record.PartRec.{PartRec}
+use Rattle.esc_sharing.specs.declared.sharing.Sharing.{Sharing}
+
+-- ---- what is demanded
+
+-- the test joins the terms of nodes of one class
+abbrev pub Joins : (Term → Term → Bool) → List Shape → (ℕ → ℕ) → Type 0
+Joins other nodes number = (a b : ℕ) → a < length nodes → b < length nodes → SameClass number a b
+    → IsTrue (other (term_of nodes a) (term_of nodes b))
+
+-- each congruent test does so, where the nodes' terms are in play, and these numbers are arithmetic
+abbrev pub IsDemanded : List Item → List Shape → List Term → (ℕ → ℕ) → Type 0
+IsDemanded literals nodes numbers number = (other : Term → Term → Bool)
+    → IsCongruent other (record { terms = terms_of nodes; numbers = numbers }) literals
+    → Joins other nodes number
+
+-- what the classes of a view join is demanded by its literals
+abbrev pub JoinsDemanded : Shared → Type 0
+JoinsDemanded v =
+    IsDemanded (literals_in v) v.graph.nodes (number_terms v.numbers) (number_of v.graph)
+
+-- ---- while equalities are told
+
+-- arithmetic nodes of one of these classes have one value in all that is admitted
+abbrev pub IsKnown : Shared → (ℕ → ℕ) → Type 0
+IsKnown v known = (a b : ℕ) → IsNumber v.numbers a → IsNumber v.numbers b → SameClass known a b
+    → AreEqualBy v.admits (node_term v.graph a) (node_term v.graph b)
+
+-- the literals are met, and the theory may not know all that the classes join
+pub record IsUnsettled (v : Shared) (known : ℕ → ℕ) : Type 0 where
+  pub parts : AreParts v
+  pub exact : AdmitsAll v
+  pub some : (x : Assignment) × v.admits x
+  pub demanded : JoinsDemanded v
+  pub known_equal : IsKnown v known
+
+-- all arithmetic nodes of the class of this one are known to be equal
+abbrev pub IsToldAt : Shared → (ℕ → ℕ) → ℕ → Type 0
+IsToldAt v known k = (a b : ℕ) → IsNumber v.numbers a → IsNumber v.numbers b
+    → SameClass (number_of v.graph) a k → SameClass (number_of v.graph) b k → SameClass known a b
+
+-- the list has the arithmetic nodes of the class of this one
+abbrev pub AreNumbersIn : Graph → List (ℕ × Term) → ℕ → List ℕ → Type 0
+AreNumbersIn g numbers k list = (n : ℕ) → Contains list n
+    ↔ ((n < length g.nodes) × SameClass (number_of g) n k × IsNumber numbers n)
+
+-- what is admitted gives arithmetic nodes of one class one value
+abbrev pub AllAgree : Shared → Type 0
+AllAgree v = (x : Assignment) → v.admits x → AgreesOn v.graph v.numbers x
+
+-- more nodes of as many are known to be equal
+pub record KnowsMore (old new : Merged) : Type 0 where
+  pub count : new.count ≡ old.count
+  pub kept : (a b : ℕ) → SameClass (class_number old.merges) a b
+      → SameClass (class_number new.merges) a b
+
+-- ---- what a step answers and leaves
+
+-- Open where this is done, and Closed where no model makes all literals hold
+abbrev pub StepEnds : Shared → Type 0 → Result State Stop → Type 0
+StepEnds w Done (Ok Open) = Done
+StepEnds w Done (Ok Closed) = HaveNoModel (literals_in w)
+StepEnds w Done (Err stop.Memory) = Unit {0}
+StepEnds w Done (Err _) = IsUnderway w
+
+-- these literals and groups came behind the others, and pairs were told
+pub record Keeps {T Q W : Type 0} (theory_undo : Undo T Q) (carry : PartRec Q → W)
+    (is_sound : T → Type 0) (numbers_of : T → List (ℕ × Term)) (made_of : T → List Sense)
+    (lits : List Lit) (more : List (List ℕ)) (before after : List W) (v w : Sharing T) : Type 0
+  where
+    pub sound : is_sound w.theory
+    pub numbers : numbers_of w.theory ≡ numbers_of v.theory
+    pub made : AddsMade (made_of v.theory) (made_of w.theory) (number_terms (numbers_of v.theory))
+    pub asserted : w.asserted ≡ v.asserted ++ lits
+    pub groups : w.groups ≡ v.groups ++ more
+    pub told : TellsMore v.told w.told
+    pub nodes : w.graph.nodes ≡ v.graph.nodes
+    pub undo : Notes (sharing_undo theory_undo) carry before after v w

@@ -1,0 +1,270 @@
+//! The arithmetic as a theory: nodes are bound to unknowns, and orders restrict their gaps.
+
+ghost use Rattle.std.specs.Prelude.{◌≡◌, ◌↔◌, ℕ, ◌<◌, [], ◌∷◌, IfErr, IfOk, IsTrue};
+ghost use Rattle.std.specs.List.{All, Contains};
+ghost use Rattle.esc_cover.specs.Assignment.{gap};
+ghost use Rattle.esc_trail.specs.Undo.{Notes};
+ghost use Rattle.esc_simplex.specs.Barred.{IsBarred};
+ghost use Rattle.esc_simplex.specs.SimplexUndo.{simplex_undo};
+ghost use Rattle.esc_simplex.specs.View.{Allows, IsSimplex, numbers_in, senses_in};
+ghost use Rattle.esc_sharing.specs.Admitted.{RestrictEnds};
+ghost use Rattle.esc_sharing.specs.ArithmeticInside.{AreChosen, OnlyRows, PairEnds, PairsEnd};
+ghost use Rattle.esc_sharing.specs.ArithmeticInside.{RestEnds, StandsAmong};
+ghost use Rattle.esc_sharing.specs.Nodes.{node_count, node_term};
+ghost use Rattle.esc_sharing.specs.Numbers.{AddsMade, AreNumbersOf, IsGapOf, IsNumber};
+ghost use Rattle.esc_sharing.specs.Numbers.{number_terms};
+
+use crate::literal::Lit;
+use crate::theory::Theory;
+use esc_egraph::{EGraph, Node, State};
+use esc_simplex::{Parted, Simplex, SimplexRec, Stop};
+use esc_tableau::Unknown;
+use esc_trail::{Carries, Trail};
+use std::alloc::AllocError;
+
+impl Theory for Simplex {
+    ghost use Rattle.std.specs.List.{Contains};
+    ghost use Rattle.esc_simplex.specs.Barred.{IsBarred};
+    ghost use Rattle.esc_simplex.proofs.BackIsSound.{back_is_sound};
+    ghost use Rattle.esc_simplex.specs.SimplexLaws.{same_allows};
+    ghost use Rattle.esc_simplex.specs.View.{Allows, IsSimplex, numbers_in, senses_in};
+    ghost use Rattle.esc_sharing.specs.ArithmeticLaws.{back_keeps, barred_by_wider};
+    ghost use Rattle.esc_sharing.specs.Numbers.{IsGapOf};
+
+    ghost sound = { IsSimplex };
+
+    ghost admits = { Allows };
+
+    ghost numbers = { numbers_in };
+
+    ghost made = { senses_in };
+
+    ghost barred = { λ v terms numbers stop. IsBarred v (Contains terms) (IsGapOf numbers) stop };
+
+    fn has_node(&self, a: Node) -> bool {
+        self.unknown_of(a).is_some()
+    }
+
+    fn add_node<R: Carries<SimplexRec>>(
+        &mut self,
+        graph: &EGraph,
+        a: Node,
+        trail: &mut Trail<R>,
+    ) -> Result<(), Stop> {
+        if self.unknown_of(a).is_some() {
+            return Ok(());
+        }
+        let Ok(term) = graph.term(a) else {
+            return Err(Stop::Memory);
+        };
+        let unknown = self.unknown(&term, trail)?;
+        match self.bind(a, unknown, trail) {
+            Ok(()) => Ok(()),
+            Err(AllocError) => Err(Stop::Memory),
+        }
+    }
+
+    fn assert<R: Carries<SimplexRec>>(
+        &mut self,
+        graph: &EGraph,
+        lit: Lit,
+        trail: &mut Trail<R>,
+    ) -> Result<State, Stop> {
+        match lit {
+            Lit::Equal(_, _) => Ok(State::Open),
+            Lit::Apart(_, _) => Ok(State::Open),
+            Lit::Below(a, b) => restrict_gap(self, graph, b, a, true, trail),
+            Lit::AtMost(a, b) => restrict_gap(self, graph, b, a, false, trail),
+        }
+    }
+
+    fn told_equal<R: Carries<SimplexRec>>(
+        &mut self,
+        _graph: &EGraph,
+        a: Node,
+        b: Node,
+        trail: &mut Trail<R>,
+    ) -> Result<State, Stop> {
+        let first = number_unknown(self, a);
+        let second = number_unknown(self, b);
+        self.equal(first, second, trail)
+    }
+
+    fn next_equal(&mut self, graph: &EGraph) -> Result<Option<(Node, Node)>, Stop> {
+        let Ok(chosen) = class_numbers(self, graph) else {
+            return Err(Stop::Memory);
+        };
+        missed_pair(self, graph, &chosen)
+    }
+
+    ghost same_admits = { same_allows };
+
+    ghost same_numbers = { λ v w h. h.numbers };
+
+    ghost back_made = { back_keeps };
+
+    ghost back_sound = { back_is_sound };
+
+    ghost barred_by_more = { barred_by_wider };
+}
+
+/// The unknown of an arithmetic node.
+fn number_unknown(simplex: &Simplex, a: Node) -> Unknown
+    requires number { IsNumber (numbers_in simplex.now) a }
+    ensures { Contains simplex.now.bound (a, result) }
+{
+    match simplex.unknown_of(a) {
+        Some(unknown) => unknown,
+        None => unreachable!(),
+    }
+}
+
+/// Restricts the gap of two arithmetic nodes, upper less lower, and less 1 where it is strict.
+fn restrict_gap<R: Carries<SimplexRec>>(
+    simplex: &mut Simplex,
+    graph: &EGraph,
+    upper: Node,
+    lower: Node,
+    strict: bool,
+    trail: &mut Trail<R>,
+) -> Result<State, Stop>
+    requires sound { IsSimplex simplex.old }
+    requires numbers { AreNumbersOf graph.now (numbers_in simplex.old) }
+    requires upper { IsNumber (numbers_in simplex.old) upper }
+    requires lower { IsNumber (numbers_in simplex.old) lower }
+    ensures ends { RestrictEnds (Allows simplex.old) (Allows simplex.new)
+        (gap (node_term graph.now upper) (node_term graph.now lower) strict ∷ []) result }
+    ensures numbers { numbers_in simplex.new ≡ numbers_in simplex.old }
+    ensures sound { IsSimplex simplex.new }
+    ensures made { AddsMade (senses_in simplex.old) (senses_in simplex.new)
+        (number_terms (numbers_in simplex.old)) }
+    ensures stop { IfErr result (IsBarred simplex.new (λ t. ⊥)
+        (IsGapOf (number_terms (numbers_in simplex.old)))) }
+    ensures undo { Notes simplex_undo R.carried trail.old.records trail.new.records simplex.old
+        simplex.new }
+{
+    let above = number_unknown(simplex, upper);
+    let below = number_unknown(simplex, lower);
+    let unknown = simplex.gap(above, below, strict, trail)?;
+    simplex.at_least_zero(unknown, trail)
+}
+
+/// One bound node with its unknown for each class that has one, in the order of making.
+fn class_numbers(simplex: &Simplex, graph: &EGraph) -> Result<Vec<(Node, Unknown)>, AllocError>
+    requires numbers { AreNumbersOf graph.now (numbers_in simplex.now) }
+    ensures { IfOk result (λ v. AreChosen graph.now simplex.now.bound v.items) }
+{
+    let numbers = numbers_in_order(simplex)?;
+    let mut chosen = Vec::new(simplex.allocator());
+    'nodes: for place in 0..numbers.len() {
+        let number = numbers[place];
+        let known = stands_among(graph, &chosen, number.0);
+        if !known {
+            chosen.push(number)?;
+        }
+    }
+    Ok(chosen)
+}
+
+/// The bound nodes with their unknowns, in the order of making.
+fn numbers_in_order(simplex: &Simplex) -> Result<Vec<(Node, Unknown)>, AllocError>
+    ensures { IfOk result (λ v. (p : ℕ × ℕ) → Contains v.items p ↔ Contains simplex.now.bound p) }
+{
+    let mut numbers = Vec::from_slice(simplex.allocator(), simplex.bound_nodes())?;
+    numbers.sort_unstable_by_key(|number| number.0.index());
+    Ok(numbers)
+}
+
+/// Whether a node of this one's class is among these.
+fn stands_among(graph: &EGraph, numbers: &[(Node, Unknown)], a: Node) -> bool
+    requires a { a < node_count graph.now }
+    requires numbers { All (λ p. p.0 < node_count graph.now) numbers.now }
+    ensures { IsTrue result ↔ StandsAmong graph.now numbers.now a }
+{
+    'numbers: for place in 0..numbers.len() {
+        let number = numbers[place];
+        if graph.same(a, number.0) {
+            return true;
+        }
+    }
+    false
+}
+
+/// Two of these that stand in two classes and have one value in all that is admitted.
+fn missed_pair(
+    simplex: &mut Simplex,
+    graph: &EGraph,
+    numbers: &[(Node, Unknown)],
+) -> Result<Option<(Node, Node)>, Stop>
+    requires sound { IsSimplex simplex.old }
+    requires numbers { AreNumbersOf graph.now (numbers_in simplex.old) }
+    requires bound { All (Contains simplex.old.bound) numbers.now }
+    ensures ends { PairsEnd graph.now simplex.old numbers.now result }
+    ensures rows { OnlyRows simplex.old simplex.new }
+    ensures stop { IfErr result (IsBarred simplex.new (λ t. ⊥)
+        (IsGapOf (number_terms (numbers_in simplex.old)))) }
+{
+    'numbers: for place in 0..numbers.len() {
+        let number = &numbers[place];
+        let found = missed_with(simplex, graph, number, &numbers[place + 1..])?;
+        match found {
+            Some(other) => return Ok(Some((number.0, other))),
+            None => (),
+        }
+    }
+    Ok(None)
+}
+
+/// One of the others that stands in another class than the node, and has its value in all that is
+/// admitted.
+fn missed_with(
+    simplex: &mut Simplex,
+    graph: &EGraph,
+    number: &(Node, Unknown),
+    others: &[(Node, Unknown)],
+) -> Result<Option<Node>, Stop>
+    requires sound { IsSimplex simplex.old }
+    requires numbers { AreNumbersOf graph.now (numbers_in simplex.old) }
+    requires number { Contains simplex.old.bound number.now }
+    requires others { All (Contains simplex.old.bound) others.now }
+    ensures ends { RestEnds graph.now simplex.old number.now.0 others.now result }
+    ensures rows { OnlyRows simplex.old simplex.new }
+    ensures stop { IfErr result (IsBarred simplex.new (λ t. ⊥)
+        (IsGapOf (number_terms (numbers_in simplex.old)))) }
+{
+    'others: for place in 0..others.len() {
+        let other = &others[place];
+        let missed = is_missed(simplex, graph, number, other)?;
+        if missed {
+            return Ok(Some(other.0));
+        }
+    }
+    Ok(None)
+}
+
+/// Whether two nodes stand in two classes and have one value in all that is admitted.
+fn is_missed(
+    simplex: &mut Simplex,
+    graph: &EGraph,
+    first: &(Node, Unknown),
+    second: &(Node, Unknown),
+) -> Result<bool, Stop>
+    requires sound { IsSimplex simplex.old }
+    requires numbers { AreNumbersOf graph.now (numbers_in simplex.old) }
+    requires first { Contains simplex.old.bound first.now }
+    requires second { Contains simplex.old.bound second.now }
+    ensures ends { PairEnds graph.now simplex.old first.now.0 second.now.0 result }
+    ensures rows { OnlyRows simplex.old simplex.new }
+    ensures stop { IfErr result (IsBarred simplex.new (λ t. ⊥)
+        (IsGapOf (number_terms (numbers_in simplex.old)))) }
+{
+    let together = graph.same(first.0, second.0);
+    if together {
+        return Ok(false);
+    }
+    let parted = simplex.part(first.1, second.1)?;
+    match parted {
+        Parted::Equal => Ok(true),
+        Parted::Different => Ok(false),
+    }
+}

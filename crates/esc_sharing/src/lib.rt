@@ -1,0 +1,18 @@
+//! A graph of terms and a theory share equalities until neither has one that the other lacks.
+#![tactic(auto)]
+
+mod arithmetic;
+mod asserting;
+mod joins;
+mod known;
+mod literal;
+mod record;
+mod rounds;
+mod sharing;
+mod telling;
+mod theory;
+
+pub use literal::{Lit, Lits, NodePairs};
+pub use record::{CarriesShare, PartRec, ShareRec};
+pub use sharing::Sharing;
+pub use theory::Theory;
