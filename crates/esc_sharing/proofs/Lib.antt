@@ -1,7 +1,7 @@
 pub mod AddedNumber
+pub mod Alike
 pub mod AskedOrders
 pub mod BoundNodes
-pub mod Alike
 pub mod ClassTests
 pub mod Consistent
 pub mod Demanded
@@ -11,8 +11,10 @@ pub mod Grouping
 pub mod Joined
 pub mod Joining
 pub mod Kept
+pub mod LastLiteral
 pub mod Least
 pub mod Lists
+pub mod LiteralSteps
 pub mod MissedPairs
 pub mod ModelTest
 pub mod ModelValues

@@ -1,11 +1,12 @@
 pub mod Admitted
 pub mod ArithmeticInside
 pub mod ArithmeticLaws
+pub mod AssertingInside
 pub mod Calls
 pub mod Literals
 pub mod Nodes
 pub mod Numbers
-pub mod Shared
 pub mod SettlingInside
+pub mod Shared
 pub mod SharingUndo
 pub mod Stops

@@ -9,6 +9,7 @@ mod literal;
 mod record;
 mod rounds;
 mod sharing;
+mod steps;
 mod telling;
 mod theory;
 

@@ -1,0 +1,39 @@
+use Rattle.std.proofs.Common.{[], ap, length, sym, subst, ◌∙◌}
+use Rattle.std.specs.Prelude.{Ok}
+use Rattle.esc_union.specs.Merges.{class_number}
+use Rattle.esc_sharing.specs.Literals.{sides}
+use Rattle.esc_sharing.specs.Numbers.{arithmetic_among, number_terms, pair_terms}
+use Rattle.esc_sharing.specs.SettlingInside.{IsUnsettled, StepEnds}
+use Rattle.esc_sharing.specs.Shared.{seen}
+use Rattle.esc_sharing.proofs.LiteralSteps.{stop_by_more}
+use Rattle.esc_sharing.proofs.SharingNotes.{keeps_then}
+use Rattle.esc_sharing.proofs.sharing.Sharing.settle_literal.Goals as goal
+
+pub settle-requires-clause-unsettled : goal.settle-requires-clause-unsettled
+settle-requires-clause-unsettled g c =
+    subst (λ ms. IsUnsettled (seen g.T.Theory.sound g.T.Theory.admits g.T.Theory.numbers
+    c.take_literal.new.self) (class_number ms)) (sym c.requires.merges)
+    (subst (StepEnds _ _) (c.in_ok-take_literal.was ∙ ap Ok c.in-Open.is)
+    c.take_literal.ensures.ends)
+
+pub settle-requires-clause-count : goal.settle-requires-clause-count
+settle-requires-clause-count g c =
+    c.requires.count ∙ ap length (sym c.take_literal.ensures.keeps.nodes)
+
+pub returns-in-Open-clause-keeps : goal.returns-in-Open-clause-keeps
+returns-in-Open-clause-keeps g c =
+    keeps_then g.T.Undoable.undo g.met.T.Undoable.lawful g.R.CarriesNodes.carried_node
+    g.R.CarriesGroups.carried_group g.R.CarriesShare.carried_share g.R.Carries.carried
+    g.T.Theory.sound g.T.Theory.numbers g.T.Theory.made [] []
+    c.args.trail.now.records c.take_literal.new.trail.records c.settle.new.trail.records
+    c.args.self.now c.take_literal.new.self c.settle.new.self c.take_literal.ensures.keeps
+    c.settle.ensures.keeps
+
+pub returns-in-Open-clause-stop : goal.returns-in-Open-clause-stop
+returns-in-Open-clause-stop g c =
+    stop_by_more g.T.Theory.barred g.met.T.Theory.barred_by_more c.settle.new.self.theory
+    (arithmetic_among (g.T.Theory.numbers c.args.self.now.theory)
+    (pair_terms c.args.self.now.graph (sides c.args.lit)))
+    (number_terms (g.T.Theory.numbers c.take_literal.new.self.theory))
+    (number_terms (g.T.Theory.numbers c.args.self.now.theory))
+    (ap number_terms c.take_literal.ensures.keeps.numbers) c.settle.result c.settle.ensures.stop
