@@ -1,8 +1,8 @@
--- The number by which a term is looked up. Nothing rests on its being one for each term: `==`
--- decides.
-use Rattle.std.specs.Prelude.{ℕ, ◌*◌, ◌%◌, ◌^◌, List, length, bit_xor}
+-- Digests: numbers by which terms are looked up, that of a term made of those of its arguments.
+-- Nothing rests on a digest being one for each term: `==` decides.
+use Rattle.std.specs.Prelude.{ℕ, ◌*◌, ◌/◌, ◌%◌, ◌^◌, List, bit_xor}
 use Rattle.std.specs.Hash.{HashWrites, Alike, same_Alike, u64}
-use Rattle.std.specs.Int.{cast_unsigned}
+use Rattle.std.specs.Int.{cast_unsigned, rotate_left}
 use Rattle.std.specs.List.{fold}
 use mir.Syntax.{w64}
 use Rattle.esc_term.specs.declared.term.Head.{Head}
@@ -14,30 +14,34 @@ use Rattle.esc_term.specs.Equal.{same_term, same_term-is}
 
 -- a number after a word is mixed into it
 unfoldable pub mixed : ℕ → ℕ → ℕ
-mixed seed word = (bit_xor seed word * 11400714819323198485) % 2 ^ 64
+mixed start word =
+    let product : ℕ = (bit_xor (rotate_left w64 start 23) word * 11400714819323198485) % 2 ^ 64 in
+    bit_xor product (product / 2 ^ 32)
 
-abbrev pub head_mixed : ℕ → Head → ℕ
-head_mixed seed (Name name) = mixed (mixed seed 2) name.0
-head_mixed seed (Skolem n i) = mixed (mixed (mixed seed 3) n) i
-head_mixed seed Add = mixed seed 4
-head_mixed seed Sub = mixed seed 5
-head_mixed seed Mul = mixed seed 6
+abbrev pub head_digest : Head → ℕ
+head_digest (Name name) = mixed 2 name.0
+head_digest (Skolem n i) = mixed (mixed 3 n) i
+head_digest Add = 4
+head_digest Sub = 5
+head_digest Mul = 6
 
-abbrev pub mixed_step : Term-F (ℕ → ℕ) → ℕ → ℕ
-mixed_step (Term-F.Num n) seed = mixed (mixed seed 0) (cast_unsigned w64 n)
-mixed_step (Term-F.Var k) seed = mixed (mixed seed 1) k
-mixed_step (Term-F.App head args) seed =
-    fold (λ s arg. arg s) (mixed (head_mixed seed head) (length args)) args
+abbrev pub digest_step : Term-F ℕ → ℕ
+digest_step (Term-F.Num n) = mixed 0 (cast_unsigned w64 n)
+digest_step (Term-F.Var k) = mixed 1 k
+digest_step (Term-F.App head args) = fold mixed (head_digest head) args
 
-unfoldable pub term_mixed : ℕ → Term → ℕ
-term_mixed seed t = fold-Term (ℕ → ℕ) mixed_step t seed
+unfoldable pub digest : Term → ℕ
+digest = fold-Term ℕ digest_step
+
+abbrev pub term_mixed : ℕ → Term → ℕ
+term_mixed start t = mixed start (digest t)
 
 abbrev pub terms_mixed : ℕ → List Term → ℕ
-terms_mixed seed ts = fold term_mixed (mixed seed (length ts)) ts
+terms_mixed start ts = fold term_mixed start ts
 
 -- what a term gives to a hasher
 abbrev pub hashed : Term → HashWrites
-hashed t = u64 (term_mixed 0 t)
+hashed t = u64 (digest t)
 
 pub hashed-alike : Alike same_term hashed
 hashed-alike = same_Alike hashed same_term-is

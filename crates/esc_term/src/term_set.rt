@@ -5,9 +5,9 @@ ghost use Rattle.std.specs.List.{list_any};
 ghost use Rattle.esc_term.specs.Equal.{same_term};
 ghost use Rattle.esc_term.specs.Term.{with_once};
 
+use crate::copied::with_room;
 use crate::term::{Term, Terms};
 use indexmap::IndexSet;
-use sqlite_items::Items;
 use std::alloc::{AllocError, Global};
 use std::marker::Model;
 
@@ -60,7 +60,7 @@ impl TermSet {
     pub fn into_terms(self, alloc: Global) -> Result<Terms, AllocError>
         ensures { IfOk result (λ terms. terms ≡ self) }
     {
-        let mut terms = Items::new(alloc);
+        let mut terms = with_room(alloc, self.terms.len())?;
         for term in self.terms {
             terms.push(term)?;
         }
