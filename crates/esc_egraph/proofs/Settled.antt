@@ -9,7 +9,9 @@ use Rattle.esc_index.specs.Places.{entry_at}
 use Rattle.esc_union.specs.Merges.{SameClass, class_number}
 use Rattle.esc_union.proofs.Numbers.{class_number-more, moved_other, same_more}
 use Rattle.esc_egraph.specs.Congruence.{AreAlike, IsCongruence}
-use Rattle.esc_egraph.specs.KeysInside.{mixed, top_key, key_of}
+use Rattle.esc_term.specs.Digest.{mixed}
+use Rattle.esc_nodes.specs.TopDigest.{top_digest}
+use Rattle.esc_egraph.specs.KeysInside.{key_of}
 use Rattle.esc_egraph.specs.PartsInside.{IsMatch, IsWhole}
 use Rattle.esc_egraph.specs.ClosingInside.{IsSettled}
 use Rattle.esc_egraph.proofs.Joining.{alike_within, alike_back, alike_on}
@@ -30,14 +32,14 @@ pub key_of-alike : (number : ℕ → ℕ) (s t : Shape) → AreAlike number s t 
     ≡ key_of number t
 unfolding key_of
 key_of-alike number s t alike =
-    ap (λ k. fold mixed k (map number s.args) % 2 ^ 32) (ap top_key alike.top)
-    ∙ ap (λ ks. fold mixed (top_key t.top) ks % 2 ^ 32)
+    ap (λ k. fold mixed k (map number s.args) % 2 ^ 32) (ap top_digest alike.top)
+    ∙ ap (λ ks. fold mixed (top_digest t.top) ks % 2 ^ 32)
     (map-same number number s.args t.args alike.args.lengths alike.args.places)
 
 pub key_of-still : (f g : ℕ → ℕ) (s : Shape) → All (λ a. f a ≡ g a) s.args → key_of f s ≡ key_of g s
 unfolding key_of
 key_of-still f g s all =
-    ap (λ ks. fold mixed (top_key s.top) ks % 2 ^ 32) (map-same f g s.args s.args refl
+    ap (λ ks. fold mixed (top_digest s.top) ks % 2 ^ 32) (map-same f g s.args s.args refl
     (λ k l. All-get_or (λ a. f a ≡ g a) s.args k 0 l all))
 
 pub alike_still : (f g : ℕ → ℕ) (s t : Shape) → All (λ a. f a ≡ g a) s.args

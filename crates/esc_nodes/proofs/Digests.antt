@@ -11,9 +11,10 @@ use Rattle.esc_nodes.specs.declared.top.Top.TheVariants.{Num, App}
 use Rattle.esc_nodes.specs.Nodes.{Shape, shape, shape_at, AreTerms}
 use Rattle.esc_nodes.specs.Terms.{built, at_place, with_next, terms_of, term_of}
 use Rattle.esc_nodes.specs.TableInside.{Filed, bucket_at}
-use Rattle.esc_nodes.specs.DigestInside.{mixed, top_digest, digest, with_term}
+use Rattle.esc_term.specs.Digest.{mixed, digest, term_mixed}
+use Rattle.esc_nodes.specs.TopDigest.{top_digest}
 use Rattle.esc_nodes.specs.DigestsInside.{digests, shape_digest}
-use Rattle.esc_nodes.proofs.DigestLevels.{digest-Num, digest-App, fold-map}
+use Rattle.esc_term.proofs.DigestLevels.{digest-Num, digest-App, fold-map}
 use Rattle.esc_nodes.proofs.NodeTerms.{terms_stay, terms_are_built, count_terms}
 
 -- that of the term that is built, where a numeral has no arguments
@@ -24,7 +25,7 @@ digest-built of (Num n) [] bare = digest-Num n
 digest-built of (Num n) (a ∷ args) bare = absurd (omega
     (arith, ap (λ (s : Shape). length s.args) bare))
 digest-built of (App head) args bare = digest-App head (map of args)
-    ∙ fold-map with_term of (top_digest (App head)) args
+    ∙ fold-map term_mixed of (top_digest (App head)) args
 
 pub digests-push : (nodes : List Shape) (s : Shape) → digests (nodes ++ (s ∷ [])) ≡ digests nodes
     ++ (digest (built (term_of nodes) s.top s.args) ∷ [])

@@ -2,7 +2,6 @@ pub mod NodeTerms
 pub mod Shapes
 pub mod Tops
 pub mod Linking
-pub mod DigestLevels
 pub mod Digests
 pub mod Passing
 pub mod Spans

@@ -4,7 +4,8 @@ use Rattle.std.specs.List.{fold}
 use Rattle.esc_nodes.specs.declared.top.Top.{Top}
 use Rattle.esc_nodes.specs.Nodes.{Shape}
 use Rattle.esc_nodes.specs.Terms.{terms_of, term_of}
-use Rattle.esc_nodes.specs.DigestInside.{mixed, top_digest, digest}
+use Rattle.esc_term.specs.Digest.{mixed, digest}
+use Rattle.esc_nodes.specs.TopDigest.{top_digest}
 
 -- those of the terms of nodes
 abbrev pub digests : List Shape → List ℕ

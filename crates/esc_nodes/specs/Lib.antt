@@ -1,4 +1,3 @@
-pub mod DigestInside
 pub mod DigestsInside
 pub mod Laws
 pub mod Nodes
@@ -6,3 +5,4 @@ pub mod NodesInside
 pub mod TableHeldInside
 pub mod TableInside
 pub mod Terms
+pub mod TopDigest

@@ -1,7 +1,6 @@
 //! Ground terms as nodes: each term has one node, which has the nodes of its arguments.
 #![tactic(auto)]
 
-mod digest;
 mod laws;
 mod nodes;
 mod table;

@@ -2,14 +2,14 @@ ghost use Rattle.std.specs.Prelude.{◌≡◌, ℕ, ◌+◌, ◌-◌, ◌<◌, [
 ghost use Rattle.std.specs.Prelude.{OnOk, OnErr, IfSome, IfNone, IsTrue, ◌↔◌, All};
 ghost use Rattle.esc_nodes.specs.Nodes.{shape, shape_at, AreTerms};
 ghost use Rattle.esc_nodes.specs.Terms.{term_of};
-ghost use Rattle.esc_nodes.specs.DigestInside.{digest};
+ghost use Rattle.esc_term.specs.Digest.{digest};
 ghost use Rattle.esc_nodes.specs.DigestsInside.{shape_digest};
 
 mod term;
 
-use crate::digest::{digest_top, mix};
 use crate::table::Table;
 use crate::top::Top;
+use esc_term::mix;
 use esc_union::{Node, narrow};
 use std::alloc::{AllocError, Global};
 use std::marker::Model;
@@ -103,7 +103,7 @@ impl Nodes {
     fn digest_of(&self, top: Top, args: &[Node]) -> u64
         ensures { result ≡ shape_digest self.now top args.now }
     {
-        let mut done = digest_top(top);
+        let mut done = top.digest();
         'places: for arg in args {
             done = mix(done, self.digest(*arg));
         }
@@ -116,7 +116,7 @@ impl Nodes {
     {
         match self.table.digest(node.index()) {
             Some(digest) => digest,
-            None => digest_top(Top::Num(0)),
+            None => Top::Num(0).digest(),
         }
     }
 

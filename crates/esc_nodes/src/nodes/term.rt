@@ -3,12 +3,10 @@ ghost use Rattle.std.specs.Prelude.{IfOk, IfSome, IfNone};
 ghost use Rattle.esc_nodes.specs.Nodes.{AreTerms};
 ghost use Rattle.esc_nodes.specs.Terms.{term_of};
 
-use crate::digest::digest_term;
 use crate::nodes::Nodes;
 use crate::top::Top;
-use esc_term::Term;
+use esc_term::{Term, digest_term, with_room};
 use esc_union::Node;
-use sqlite_items::Items;
 use std::alloc::AllocError;
 
 impl Nodes {
@@ -78,8 +76,9 @@ impl Nodes {
         match self.top(node) {
             Top::Num(n) => Ok(Term::Num(n)),
             Top::App(head) => {
-                let mut terms = Items::new(alloc);
-                'places: for arg in self.args(node) {
+                let args = self.args(node);
+                let mut terms = with_room(alloc, args.len())?;
+                'places: for arg in args {
                     terms.push(self.term(*arg)?)?;
                 }
                 Ok(Term::App(head, terms))

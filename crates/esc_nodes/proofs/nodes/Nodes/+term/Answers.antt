@@ -21,7 +21,7 @@ returns-after-places t c =
     (map (term_of c.args.self.now) (shape_at c.args.self.now c.args.node).args) =
     term_of-App c.args.self.now c.args.node c.in-App.head are c.requires (sym c.top.ensures
     ∙ c.in-App.is) in
-    rw (is, ← c.args-arg-items.ensures)
+    rw (is, ← c.args-args.ensures)
     (ap (λ ts. term.App c.in-App.head ts) (c.places.invariant
     ∙ ap (λ ns. map (term_of c.args.self.now) ns) (take_all c.places.arg-index
-    c.args-arg-items.result.now c.places-test.false)))
+    c.args-args.result.now c.places-test.false)))

@@ -6,4 +6,4 @@ abbrev pub decreases-term : goal.decreases-term
 decreases-term l = l.node
 
 abbrev pub invariant-places : goal.invariant-places
-invariant-places l = l.terms ≡ map (term_of l.self) (take l.arg-index l.arg-items)
+invariant-places l = l.terms ≡ map (term_of l.self) (take l.arg-index l.args)

@@ -13,5 +13,5 @@ pub returns-in-None : goal.returns-in-None
 returns-in-None c =
     filed-past c.args.self.now c.self.inside.table (c.self.invariant.filed
     ∙ ap digests c.self.view_is)
-    c.index.result c.args.node c.digest_top.result c.index.ensures c.in-None.ensures.none
-    c.digest_top.ensures
+    c.index.result c.args.node c.digest-in-None.result c.index.ensures c.in-None.ensures.none
+    c.digest-in-None.ensures

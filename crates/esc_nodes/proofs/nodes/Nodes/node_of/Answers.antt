@@ -1,7 +1,7 @@
 use Rattle.std.proofs.Common.{◌≡◌, ◌%◌, length, IsTrue, ap, sym, ◌∙◌, arith}
 use Rattle.esc_nodes.specs.Terms.{term_of}
 use Rattle.esc_nodes.specs.TableInside.{IsEnd, bucket_at}
-use Rattle.esc_nodes.specs.DigestInside.{digest}
+use Rattle.esc_term.specs.Digest.{digest}
 use Rattle.esc_nodes.specs.DigestsInside.{digests}
 use Rattle.esc_nodes.proofs.Digests.{filed-count, filed-term}
 use Rattle.esc_nodes.proofs.Passing.{IsPassed-starts, IsPassed-step}

@@ -1,7 +1,7 @@
 use Rattle.std.proofs.Common.{◌≡◌, ◌%◌, length}
 use Rattle.esc_nodes.specs.Terms.{term_of}
 use Rattle.esc_nodes.specs.TableInside.{bucket_at}
-use Rattle.esc_nodes.specs.DigestInside.{digest}
+use Rattle.esc_term.specs.Digest.{digest}
 use Rattle.esc_nodes.proofs.Passing.{IsPassed}
 use Rattle.esc_nodes.proofs.nodes.Nodes.node_of.Given as goal
 
