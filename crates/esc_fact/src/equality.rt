@@ -5,26 +5,12 @@ ghost use Rattle.std.specs.Cmp.{partial_equiv_from_equiv};
 ghost use Rattle.esc_fact.specs.Equal.{same_fact, same_fact-equivalence};
 
 use crate::fact::Fact;
-use esc_term::Term;
+use esc_term::{Term, are_same};
 
 fn is_same_term(left: &Term, right: &Term) -> bool
     ensures { IsTrue result ↔ (left.now ≡ right.now) }
 {
     *left == *right
-}
-
-fn are_same(lefts: &[Term], rights: &[Term]) -> bool
-    ensures { IsTrue result ↔ (lefts.now ≡ rights.now) }
-{
-    if lefts.len() != rights.len() {
-        return false;
-    }
-    for (i, left) in lefts.iter().enumerate() {
-        if !is_same_term(left, &rights[i]) {
-            return false;
-        }
-    }
-    true
 }
 
 fn is_same(left: &Fact, right: &Fact) -> bool

@@ -13,8 +13,8 @@ ghost use Rattle.esc_fact.specs.declared.fact.Fact.TheVariants as made;
 use crate::base::Base;
 use crate::fact::Fact;
 use crate::quantified::quantified_at;
-use esc_term::{Copied, Formula, Head, Quant, Sym, Term, Terms, substitute};
-use sqlite_items::{Boxed, Items};
+use esc_term::{Copied, Formula, Head, Quant, Sym, Term, Terms, substitute, with_room};
+use sqlite_items::Boxed;
 use std::alloc::{AllocError, Global};
 
 /// The formula that says that this one fails.
@@ -118,7 +118,7 @@ fn own_terms(alloc: Global, number: u64, count: u64, outer: &Terms) -> Result<Te
     ensures { IfOk result (λ ts. ts
         ≡ map (λ i. Term.App (Head.Skolem number i) outer.now) (range_with_len 0 count)) }
 {
-    let mut terms = Items::new(alloc);
+    let mut terms = with_room(alloc, count as usize)?;
     'places: for i in 0..count {
         terms.push(Term::App(Head::Skolem(number, i), outer.copied(alloc)?))?;
     }
@@ -142,7 +142,7 @@ fn skolem(alloc: Global, base: &Base, number: u64, outer: &Terms) -> Result<Form
 fn selected(alloc: Global, map: Term, place: &Term) -> Result<Term, AllocError>
     ensures { IfOk result (λ t. t ≡ select map place.now) }
 {
-    let mut args = Items::new(alloc);
+    let mut args = with_room(alloc, 2)?;
     args.push(map)?;
     args.push(place.copy(alloc)?)?;
     Ok(Term::App(Head::Name(Sym::SELECT), args))
@@ -152,7 +152,7 @@ fn selected(alloc: Global, map: Term, place: &Term) -> Result<Term, AllocError>
 fn stored(alloc: Global, map: &Term, place: &Term, value: &Term) -> Result<Term, AllocError>
     ensures { IfOk result (λ t. t ≡ store map.now place.now value.now) }
 {
-    let mut args = Items::new(alloc);
+    let mut args = with_room(alloc, 3)?;
     args.push(map.copy(alloc)?)?;
     args.push(place.copy(alloc)?)?;
     args.push(value.copy(alloc)?)?;
@@ -179,7 +179,7 @@ fn kept(
 {
     let now = selected(alloc, stored(alloc, map, place, value)?, other)?;
     let before = selected(alloc, map.copy(alloc)?, other)?;
-    let mut parts = Items::new(alloc);
+    let mut parts = with_room(alloc, 2)?;
     parts.push(Formula::Eq(place.copy(alloc)?, other.copy(alloc)?))?;
     parts.push(Formula::Eq(now, before))?;
     Ok(Formula::Or(parts))

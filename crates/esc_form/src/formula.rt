@@ -17,8 +17,7 @@ use crate::reader::FormReader;
 use esc_names::{Binder, Join, Labelling, Note, Relation};
 use esc_read::{FormKind, FormStop, args_of, place_of, refusal, text_of};
 use esc_sexp::Sexp;
-use esc_term::{Formula, Formulas};
-use sqlite_items::Items;
+use esc_term::{Formula, Formulas, with_room};
 
 impl<'e> FormReader<'e> {
     /// A predicate without arguments, or a variable, as a formula.
@@ -110,7 +109,7 @@ impl<'e> FormReader<'e> {
     pub(crate) fn read_formulas(&mut self, parts: &'e [Sexp]) -> Result<Formulas, FormStop>
         ensures { ReadsIn self.old.terms self.new.terms result (each (map formula parts.now)) }
     {
-        let mut formulas = Items::new(self.terms.alloc());
+        let mut formulas = with_room(self.terms.alloc(), parts.len()).map_err(exhausted)?;
         'parts: for part in parts {
             let formula = self.read_formula(part)?;
             formulas.push(formula).map_err(exhausted)?;

@@ -11,7 +11,7 @@ use crate::form::is_multi;
 use crate::reader::FormReader;
 use esc_read::{FormKind, FormStop, args_of, place_of, refusal};
 use esc_sexp::Sexp;
-use esc_term::{Patterns, Term, Terms};
+use esc_term::{Patterns, Term, Terms, with_room};
 use sqlite_items::Items;
 use std::alloc::{AllocError, Global};
 
@@ -74,7 +74,7 @@ impl<'e> FormReader<'e> {
     fn read_patterns(&mut self, parts: &[Sexp]) -> Result<Patterns, FormStop>
         ensures { ReadsIn self.old.terms self.new.terms result (each (map pattern parts.now)) }
     {
-        let mut patterns = Items::new(self.terms.alloc());
+        let mut patterns = with_room(self.terms.alloc(), parts.len()).map_err(exhausted)?;
         'parts: for part in parts {
             let pattern = self.read_pattern(part)?;
             patterns.push(pattern).map_err(exhausted)?;

@@ -12,7 +12,7 @@ use crate::reader::TermReader;
 use crate::token::{Token, place_of, text_of};
 use esc_names::{Key, Operator};
 use esc_sexp::Sexp;
-use esc_term::{Head, Term, Terms};
+use esc_term::{Head, Term, Terms, with_room};
 use sqlite_items::Items;
 
 /// What the head of a list says where a term is wanted.
@@ -144,7 +144,7 @@ impl<'e> TermReader<'e> {
     pub fn read_terms(&mut self, parts: &[Sexp]) -> Result<Terms, FormStop>
         ensures { ReadsIn self.old self.new result (each (map term parts.now)) }
     {
-        let mut terms = Items::new(self.alloc());
+        let mut terms = with_room(self.alloc(), parts.len()).map_err(exhausted)?;
         'parts: for part in parts {
             let term = self.read_term(part)?;
             terms.push(term).map_err(exhausted)?;
