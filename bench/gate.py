@@ -3,8 +3,8 @@
 
 usage: python3 bench/gate.py [NAME..]
 
-Runs `rt ci --anew` in a clone of what is committed, for all crates or for these and those below
-them, and looks five times a second at what its processes have used. An item is a crate's proof,
+Runs `rt ci` in a clone of what is committed, which has nothing built, with all crates or with
+these and those below them, and looks five times a second at what its processes have used. An item is a crate's proof,
 its tests (proved and built), one must-fail edit, what its edits begin with and end with (a check
 of the crate as it stands), or the building of its program by one of the two compilers. What is
 used between the last look and the end of a process is not seen, about a tenth of a second.
@@ -12,6 +12,7 @@ used between the last look and the end of a process is not seen, about a tenth o
 import collections
 import os
 import resource
+import shutil
 import subprocess
 import sys
 import tempfile
@@ -143,11 +144,34 @@ def show(total, whole):
         print(f"- {used:.0f} `{crate}`: {name}")
 
 
+def keep(clone, names):
+    """Leaves only these crates and those below them in a clone."""
+    with open(f"{clone}/crates.txt", encoding="utf-8") as it:
+        rows = [row for row in it if not row.startswith("#")]
+    uses = {row.partition(":")[0].strip(): row.partition(":")[2].split() for row in rows}
+    kept = set()
+
+    def add(name):
+        if name in uses and name not in kept:
+            kept.add(name)
+            for it in uses[name]:
+                add(it)
+
+    for name in names:
+        add(name)
+    for name in uses.keys() - kept:
+        shutil.rmtree(f"{clone}/crates/{name}")
+    with open(f"{clone}/crates.txt", "w", encoding="utf-8") as it:
+        it.writelines(row for row in rows if row.partition(":")[0].strip() in kept)
+
+
 def main(names):
     here = os.path.dirname(os.path.dirname(os.path.realpath(__file__)))
     with tempfile.TemporaryDirectory(prefix="gate-") as room:
         subprocess.run(["git", "clone", "-q", here, f"{room}/clone"], check=True)
-        status, total = measured(["rt", "ci", "--anew", *names], f"{room}/clone/crates")
+        if names:
+            keep(f"{room}/clone", names)
+        status, total = measured(["rt", "ci"], f"{room}/clone/crates")
     used = resource.getrusage(resource.RUSAGE_CHILDREN)
     show(total, used.ru_utime + used.ru_stime)
     return status
