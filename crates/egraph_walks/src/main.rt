@@ -11,6 +11,7 @@ mod plain;
 mod walk;
 
 use crate::walk::Walk;
+use std::alloc::{AllocError, Global};
 use std::io;
 
 /// The walks have the seeds below this one.
@@ -19,16 +20,23 @@ const WALKS: u64 = 30;
 /// How many levels may stand within one another.
 const DEPTH: u32 = 2;
 
+/// Whether all agreed on the walk of this seed, and how many calls it made.
+fn walked(alloc: Global, seed: u64) -> (Result<bool, AllocError>, u64) {
+    let mut walk = Walk::new(alloc, seed);
+    let agreed = walk.level(DEPTH);
+    (agreed, walk.calls())
+}
+
 fn main(rt: HostRuntime) -> io::Result<()> {
     let mut calls = 0u64;
     'walks: for seed in 0..WALKS {
-        let mut walk = Walk::new(rt.alloc(), seed);
-        match walk.level(DEPTH) {
+        let (agreed, made) = walked(rt.alloc(), seed);
+        match agreed {
             Ok(true) => (),
             Ok(false) => println!(rt; "seed {seed} differs")?,
             Err(_) => println!(rt; "seed {seed}: no memory")?,
         }
-        calls = calls.saturating_add(walk.calls());
+        calls = calls.saturating_add(made);
     }
     println!(rt; "{WALKS} walks of {calls} calls")
 }

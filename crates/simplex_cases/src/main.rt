@@ -62,11 +62,16 @@ fn answer_line(rt: &HostRuntime, alloc: Global, script: &mut Script, line: &str)
     }
 }
 
-fn main(rt: HostRuntime) -> io::Result<()> {
-    let alloc = rt.alloc();
-    let mut script = Script::new(alloc, 0);
+fn answer_all(rt: &HostRuntime, alloc: Global, script: &mut Script) -> io::Result<()>
+    requires { IsUndoable script.old }
+{
     'lines: for line in rt.lines(alloc) {
-        answer_line(&rt, alloc, &mut script, line?.as_str())?;
+        answer_line(rt, alloc, script, line?.as_str())?;
     }
     Ok(())
+}
+
+fn main(rt: HostRuntime) -> io::Result<()> {
+    let mut script = Script::new(rt.alloc(), 0);
+    answer_all(&rt, rt.alloc(), &mut script)
 }
