@@ -64,11 +64,14 @@ fn answer_line(
     }
 }
 
-fn main(rt: HostRuntime) -> io::Result<()> {
-    let alloc = rt.alloc();
-    let mut feasible = Feasible::new(alloc);
+fn answer_all(rt: &HostRuntime, alloc: Global, feasible: &mut Feasible) -> io::Result<()> {
     'lines: for line in rt.lines(alloc) {
-        answer_line(&rt, alloc, &mut feasible, line?.as_str())?;
+        answer_line(rt, alloc, feasible, line?.as_str())?;
     }
     Ok(())
+}
+
+fn main(rt: HostRuntime) -> io::Result<()> {
+    let mut feasible = Feasible::new(rt.alloc());
+    answer_all(&rt, rt.alloc(), &mut feasible)
 }
