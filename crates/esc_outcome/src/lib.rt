@@ -3,10 +3,14 @@
 
 mod branch;
 mod counterexample;
+mod keeping;
+mod laws;
 mod limits;
 mod stuck;
 
 pub use branch::{Branch, Cause, Side, Sides, Split, Splits};
 pub use counterexample::{Class, Classes, Counterexample, Literals, Syms};
+pub use keeping::stuck_of;
+pub use laws::jam_laws;
 pub use limits::{Limits, Show};
 pub use stuck::{Meaning, Meanings, Stuck, TermPairs};
