@@ -17,10 +17,9 @@ given_by_more fs gs v among given = record {
 }
 
 pub given_after_call : GivenAfterCall
-given_after_call fs v w given numbers adds = record {
+given_after_call fs ts v w given numbers are adds = record {
   numbers = numbers;
   made = subst (All (IsSenseOf fs)) (sym adds.made)
       (All-append (IsSenseOf fs) (senses_in v) adds.more given.made
-      (All-weaker (MayStandFor (number_terms (numbers_in w))) (IsSenseOf fs)
-      (IsSenseOf-may fs (number_terms (numbers_in w)) numbers) adds.more adds.may));
+      (All-weaker (MayStandFor ts) (IsSenseOf fs) (IsSenseOf-may fs ts are) adds.more adds.may));
 }

@@ -62,8 +62,8 @@ step_for May Might more senses t None (Ratio w x) h = h
 step_for May Might more senses t None (Pivot w x) h = h
 step_for May Might more senses t (Some u) step h = h
 
-module _ (fs : List Formula) (s : Sharing Simplex) (literals : List Item) (terms : List Term)
-    (why : Stop) (at : StopsAt fs s literals terms why) where
+module _ (fs : List Formula) (s : Sharing Simplex) (literals : List Item)
+    (terms others : List Term) (why : Stop) (at : StopsAt fs s literals terms others why) where
   abbrev v : Simplex
   v = s.theory
 
@@ -73,10 +73,10 @@ module _ (fs : List Formula) (s : Sharing Simplex) (literals : List Item) (terms
   number_given : (t : Term) → Contains (number_terms (numbers_in v)) t → IsNumberOf fs t
   number_given t h = All-contains (IsNumberOf fs) (number_terms (numbers_in v)) t at.given.numbers h
 
-  gap_given : (g : Gap) → IsGapOf (number_terms (numbers_in v)) g → IsSenseOf fs (gap_of g)
+  gap_given : (g : Gap) → IsGapOf others g → IsSenseOf fs (gap_of g)
   gap_given g h = record {
-    upper = number_given g.upper h.upper;
-    lower = number_given g.lower h.lower;
+    upper = All-contains (IsNumberOf fs) others g.upper at.others_are h.upper;
+    lower = All-contains (IsNumberOf fs) others g.lower at.others_are h.lower;
   }
 
   meaning_is : (Q : Meaning → Type 0)
@@ -111,7 +111,7 @@ module _ (fs : List Formula) (s : Sharing Simplex) (literals : List Item) (terms
   -- ---- rows
 
   abbrev Senses : List Sense → Type 0
-  Senses senses = AreSensesAt v (IsGapOf (number_terms (numbers_in v))) senses
+  Senses senses = AreSensesAt v (IsGapOf others) senses
 
   meant_are : (senses : List Sense) → Senses senses
       → All (λ meaning. StandsFor senses meaning.unknown (term meaning.term)) (meanings_in v)
@@ -180,7 +180,7 @@ module _ (fs : List Formula) (s : Sharing Simplex) (literals : List Item) (terms
   keeps_rows : (rows : Rows) (So Also : List Sense → Table → Type 0)
       → ((senses : List Sense) → Senses senses → So senses (tabled rows)
       → Also senses (tabled rows))
-      → KeepsRows v (IsGapOf (number_terms (numbers_in v))) rows So
+      → KeepsRows v (IsGapOf others) rows So
       → KeepsRowsOf fs stuck rows Also
   keeps_rows rows So Also further kept = record {
     senses = kept.senses;
@@ -195,7 +195,7 @@ module _ (fs : List Formula) (s : Sharing Simplex) (literals : List Item) (terms
 
   -- what a call may make is of the formulas
   may_be_made : (senses : List Sense) → Senses senses → (e : Sense)
-      → MayBeMade senses (Contains terms) (IsGapOf (number_terms (numbers_in v))) e
+      → MayBeMade senses (Contains terms) (IsGapOf others) e
       → IsSenseOf fs e
   may_be_made senses are (term t) (inl named) =
       All-contains (IsNumberOf fs) terms t at.terms_are named
@@ -206,7 +206,7 @@ module _ (fs : List Formula) (s : Sharing Simplex) (literals : List Item) (terms
       All-contains (IsSenseOf fs) senses (gap_of g) (made_are senses are) there
 
   jams_as : (other : Stop) → UnlessMemory (IsBarred v (Contains terms)
-      (IsGapOf (number_terms (numbers_in v)))) other → other ≢ stop.Memory
+      (IsGapOf others)) other → other ≢ stop.Memory
       → JamsAs fs v.limit stuck other
   jams_as (stop.Spill j) barred not_memory =
       keeps_rows j.rows _ _ (λ senses are.
@@ -221,9 +221,9 @@ module _ (fs : List Formula) (s : Sharing Simplex) (literals : List Item) (terms
   jams_as stop.Memory barred not_memory = absurd (not_memory refl)
 
 pub stop_is_jam : StopIsJam
-stop_is_jam fs s literals terms why at = record {
+stop_is_jam fs s literals terms others why at = record {
   literals = at.literals_are;
-  told = told_are fs s literals terms why at;
-  terms = terms_are fs s literals terms why at;
-  jams = jams_as fs s literals terms why at why at.barred at.memory;
+  told = told_are fs s literals terms others why at;
+  terms = terms_are fs s literals terms others why at;
+  jams = jams_as fs s literals terms others why at why at.barred at.memory;
 }

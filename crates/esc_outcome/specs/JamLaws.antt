@@ -56,16 +56,17 @@ GivenByMore = (formulas more : List Formula) (v : Simplex) → All (Contains mor
 
 -- what a call makes of arithmetic terms of the formulas is theirs
 abbrev pub GivenAfterCall : Type 0
-GivenAfterCall = (formulas : List Formula) (v w : Simplex) → IsGivenBy formulas v
-    → All (IsNumberOf formulas) (number_terms (numbers_in w))
-    → AddsMade (senses_in v) (senses_in w) (number_terms (numbers_in w)) → IsGivenBy formulas w
+GivenAfterCall = (formulas : List Formula) (terms : List Term) (v w : Simplex)
+    → IsGivenBy formulas v → All (IsNumberOf formulas) (number_terms (numbers_in w))
+    → All (IsNumberOf formulas) terms → AddsMade (senses_in v) (senses_in w) terms
+    → IsGivenBy formulas w
 
 -- ---- the stop
 
--- a call stopped that names these terms, where the formulas gave them and all that the arithmetic
--- has, and the literals ask for no less than those that were asserted
+-- a call stopped that names these terms, and may make gaps of others, where the formulas gave them
+-- and all that the arithmetic has, and the literals ask for no less than those that were asserted
 pub record StopsAt (formulas : List Formula) (s : Sharing Simplex) (literals : List Item)
-    (terms : List Term) (why : Stop) : Type 0 where
+    (terms others : List Term) (why : Stop) : Type 0 where
   pub sound : IsSimplex s.theory
   pub underway : IsUnderway (shared_in s)
   pub numbers : AreNumbersOf s.graph (numbers_in s.theory)
@@ -75,14 +76,14 @@ pub record StopsAt (formulas : List Formula) (s : Sharing Simplex) (literals : L
   pub more : List Gap
   pub ask : flat_map asked literals ≡ flat_map asked (items_in (shared_in s)) ++ more
   pub terms_are : All (IsNumberOf formulas) terms
-  pub barred : UnlessMemory (IsBarred s.theory (Contains terms)
-      (IsGapOf (number_terms (numbers_in s.theory)))) why
+  pub others_are : All (IsNumberOf formulas) others
+  pub barred : UnlessMemory (IsBarred s.theory (Contains terms) (IsGapOf others)) why
   pub memory : why ≢ stop.Memory
 
 -- a stop is a jam of the formulas
 abbrev pub StopIsJam : Type 0
 StopIsJam = (formulas : List Formula) (s : Sharing Simplex) (literals : List Item)
-    (terms : List Term) (why : Stop) → StopsAt formulas s literals terms why
+    (terms others : List Term) (why : Stop) → StopsAt formulas s literals terms others why
     → IsJam formulas s.theory.limit (stuck_with s why literals)
 
 -- what is equal in all models of literals that follow from formulas follows too
