@@ -1,6 +1,9 @@
 pub mod BoundTerms
+pub mod Decided
 pub mod Following
 pub mod FormParts
 pub mod Giving
+pub mod Growing
 pub mod Jamming
 pub mod Numbers
+pub mod Paths

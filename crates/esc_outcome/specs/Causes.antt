@@ -5,7 +5,6 @@ use Rattle.esc_term.specs.declared.formula.Formula.{Formula}
 use Rattle.esc_term.specs.declared.formula.Formula.TheVariants.{Eq, Not}
 use Rattle.esc_term.specs.declared.formula.Item.{Item}
 use Rattle.esc_term.specs.Refuted.{Follows}
-use Rattle.esc_clause.specs.Refinement.{is_same_place}
 use Rattle.esc_clause.specs.declared.occurrence.Occurrence.{Occurrence}
 use Rattle.esc_fact.specs.Fact.{formulas_of}
 use Rattle.esc_fact.specs.Legal.{IsLegal}
@@ -14,7 +13,7 @@ use Rattle.esc_simplex.specs.declared.stop.Stop.{Stop}
 use Rattle.esc_simplex.specs.declared.stop.Stop.TheVariants as stop
 use Rattle.esc_outcome.specs.Grown.{Grown}
 use Rattle.esc_outcome.specs.Jam.{IsJam}
-use Rattle.esc_outcome.specs.Tree.{IsOccurrence, formulas_at, path_of}
+use Rattle.esc_outcome.specs.Tree.{IsOccurrence, IsUndecidedAt, formulas_at}
 use Rattle.esc_outcome.specs.declared.branch.Branch.{Branch}
 use Rattle.esc_outcome.specs.declared.branch.Cause.{Cause}
 use Rattle.esc_outcome.specs.declared.branch.Cause.TheVariants as cause
@@ -58,10 +57,6 @@ pub record IsStuck (base : Base) (limits : Limits) (branch : Branch) (stuck : St
 
 -- ---- splits
 
--- the occurrence is not decided on the branch
-abbrev pub IsUndecided : Branch → Occurrence → Type 0
-IsUndecided branch at = All (λ d. is_same_place d.at at ≡ false) (path_of branch.splits branch.under)
-
 -- there are as many splits as may be, and this one could come
 pub record IsOutOfSplits (base : Base) (limits : Limits) (branch : Branch) (next : Occurrence) :
     Type 0 where
@@ -69,7 +64,7 @@ pub record IsOutOfSplits (base : Base) (limits : Limits) (branch : Branch) (next
   pub legal : IsLegal base branch.log
   pub spent : length branch.splits ≡ limits.splits
   pub next_there : IsOccurrence (formulas_of base branch.log) next
-  pub next_new : IsUndecided branch next
+  pub next_new : IsUndecidedAt branch.splits branch.under next
 
 -- ---- all causes
 

@@ -5,3 +5,4 @@ pub mod Jam
 pub mod JamLaws
 pub mod Labels
 pub mod Tree
+pub mod TreeLaws

@@ -100,3 +100,13 @@ pub record SplitTree (done : Side → Type 0) (fs : List Formula) (splits : List
 -- the formulas are refuted with what is decided on the way to the side
 abbrev pub IsRefutedAt : List Formula → List Split → Side → Type 0
 IsRefutedAt fs splits side = Refuted (formulas_at fs splits side)
+
+-- ---- places
+
+-- no split stands at the side
+abbrev pub IsFree : List Split → Side → Type 0
+IsFree splits side = All (λ split. split.under ≢ side) splits
+
+-- the occurrence is not decided on the way to the side
+abbrev pub IsUndecidedAt : List Split → Side → Occurrence → Type 0
+IsUndecidedAt splits side at = All (λ d. is_same_place d.at at ≡ false) (path_of splits side)
