@@ -20,15 +20,15 @@ use Rattle.esc_outcome.proofs.Paths.{placed-append, slice_get_append_left}
 
 -- ---- places
 
-among_more : (n m : ℕ) (side : Side) → IsSideAmong n side → n ≤ m → IsSideAmong m side
-among_more n m None among h = tt
-among_more n m (Some side) among h = omega (arith, among, h)
+pub IsSideAmong-more : (n m : ℕ) (side : Side) → IsSideAmong n side → n ≤ m → IsSideAmong m side
+IsSideAmong-more n m None among h = tt
+IsSideAmong-more n m (Some side) among h = omega (arith, among, h)
 
 -- each split stands at a side of the tree
 pub all_among : (splits : List Split) → IsTree splits
     → All (λ (s : Split). IsSideAmong (length splits) s.under) splits
 all_among splits tree k d below =
-    among_more k (length splits) (get_or splits k d).under
+    IsSideAmong-more k (length splits) (get_or splits k d).under
     (tree.rooted k (get_or splits k d) (slice_get-get_or splits k d below)) (omega (arith, below))
 
 -- ---- in turn

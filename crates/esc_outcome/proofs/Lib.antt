@@ -1,4 +1,5 @@
 pub mod BoundTerms
+pub mod Counting
 pub mod Decided
 pub mod Following
 pub mod FormParts
@@ -7,3 +8,4 @@ pub mod Growing
 pub mod Jamming
 pub mod Numbers
 pub mod Paths
+pub mod SmallTrees

@@ -40,7 +40,7 @@ parted_at xs k x is =
     ∙ ap (λ rest. take k xs ++ rest) (drop-cons xs k x (slice_get_within xs k x is)
     ∙ ap (λ y. y ∷ drop (suc k) xs) (get_or_from_slice_get xs k x x is))
 
-pub length-front : {X : Type 0} (xs : List X) (k : ℕ) (x : X) → slice_get xs k ≡ Some x
+length-front : {X : Type 0} (xs : List X) (k : ℕ) (x : X) → slice_get xs k ≡ Some x
     → length (take k xs) ≡ k
 length-front xs k x is =
     let within = slice_get_within xs k x is in
@@ -88,7 +88,7 @@ paths_stay splits more (Some side) among =
     ap (λ found. option_map_or (path_behind side.1) found []) (placed_keeps splits more side.0 among)
 
 -- each split is placed by those before it
-pub placed_at : (splits : List Split) (k : ℕ) (split : Split) → slice_get splits k ≡ Some split
+placed_at : (splits : List Split) (k : ℕ) (split : Split) → slice_get splits k ≡ Some split
     → slice_get (placed splits) k
     ≡ Some (record { at = split.at; above = path_of (take k splits) split.under })
 placed_at splits k split is =
@@ -103,12 +103,20 @@ placed_at splits k split is =
     ∙ (ap (slice_get (placed front ++ (last ∷ []))) (sym many)
     ∙ slice_get_push (placed front) last)))
 
-pub path_below : PathBelow
-path_below splits k split holds tree is =
+-- and what is decided on the way to it is so in the whole tree
+pub placed_by : (splits : List Split) (k : ℕ) (split : Split) → IsTree splits
+    → slice_get splits k ≡ Some split
+    → slice_get (placed splits) k
+    ≡ Some (record { at = split.at; above = path_of splits split.under })
+placed_by splits k split tree is =
     let front = take k splits in
-    ap (λ found. option_map_or (path_behind holds) found []) (placed_at splits k split is)
-    ∙ ap (λ path. path ++ (record { at = split.at; holds = holds } ∷ []))
+    placed_at splits k split is
+    ∙ ap (λ path. Some (record { at = split.at; above = path }))
     (sym (paths_stay front (drop k splits) split.under
     (subst (λ n. IsSideAmong n split.under) (sym (length-front splits k split is))
     (tree.rooted k split is)))
     ∙ ap (λ list. path_of list split.under) (take-append-drop k splits))
+
+pub path_below : PathBelow
+path_below splits k split holds tree is =
+    ap (λ found. option_map_or (path_behind holds) found []) (placed_by splits k split tree is)

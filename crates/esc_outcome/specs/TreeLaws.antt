@@ -1,7 +1,7 @@
 -- What holds of splits as a tree.
-use Rattle.std.specs.Prelude.{◌≡◌, ℕ, ◌<◌, ◌^◌, Bool, true, false, List, [], ◌∷◌, ◌++◌, length, map}
-use Rattle.std.specs.Prelude.{Some, None, slice_get, sum}
-use Rattle.std.specs.List.{All}
+use Rattle.std.specs.Prelude.{◌≡◌, ℕ, ◌<◌, ◌^◌, Bool, true, false, List, [], ◌∷◌, ◌++◌, length}
+use Rattle.std.specs.Prelude.{Some, None, slice_get}
+use Rattle.std.specs.List.{All, sum_by}
 use Rattle.esc_term.specs.declared.formula.Formula.{Formula}
 use Rattle.esc_term.specs.Refuted.{Refuted}
 use Rattle.esc_clause.specs.Occurrences.{size_of}
@@ -82,7 +82,7 @@ NewSidesAreFree = (splits : List Split) (split : Split) (holds : Bool) → IsTre
 
 -- how many occurrences the formulas have
 abbrev pub occurrences_in : List Formula → ℕ
-occurrences_in fs = sum (map size_of fs)
+occurrences_in = sum_by size_of
 
 -- a tree that names each occurrence at most once on a path is small
 abbrev pub TreeIsSmall : Type 0
