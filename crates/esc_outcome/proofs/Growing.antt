@@ -33,7 +33,7 @@ all_among splits tree k d below =
 
 -- ---- in turn
 
-turn_for : (Done More : Side → Type 0) (n : ℕ)
+pub turn_for : (Done More : Side → Type 0) (n : ℕ)
     → ((side : Side) → IsSideAmong n side → Done side → More side) → (side : Side)
     → IsSideAmong n side → ComesInTurn Done side → ComesInTurn More side
 turn_for Done More n more None among turn = tt

@@ -1,4 +1,5 @@
 pub mod BoundTerms
+pub mod Branches
 pub mod Counting
 pub mod Decided
 pub mod Following

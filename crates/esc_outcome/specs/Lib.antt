@@ -1,6 +1,7 @@
 pub mod Causes
 pub mod Found
 pub mod Grown
+pub mod GrownLaws
 pub mod Jam
 pub mod JamLaws
 pub mod Labels
