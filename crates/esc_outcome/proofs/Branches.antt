@@ -25,7 +25,7 @@ use Rattle.esc_outcome.proofs.SmallTrees.{tree_is_small}
 
 -- ---- lists
 
-some_behind : {X : Type 0} (xs ys : List X) (y : X) → [] ≡ xs ++ (y ∷ ys) → ⊥
+pub some_behind : {X : Type 0} (xs ys : List X) (y : X) → [] ≡ xs ++ (y ∷ ys) → ⊥
 some_behind xs ys y e =
     let none = ap length e in
     omega (arith, none, length-append xs (y ∷ ys))

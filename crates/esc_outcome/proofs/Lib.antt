@@ -2,11 +2,13 @@ pub mod BoundTerms
 pub mod Branches
 pub mod Counting
 pub mod Decided
+pub mod FirstFacts
 pub mod Following
 pub mod FormParts
 pub mod Giving
 pub mod Growing
 pub mod Jamming
+pub mod NotRefuted
 pub mod Numbers
 pub mod Paths
 pub mod SmallTrees

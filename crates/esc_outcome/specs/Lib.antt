@@ -1,5 +1,6 @@
 pub mod Causes
 pub mod Found
+pub mod FoundLaws
 pub mod Grown
 pub mod GrownLaws
 pub mod Jam

@@ -1,5 +1,9 @@
 //! What holds of what a search comes to. The functions state it, and do nothing.
 
+ghost use Rattle.esc_outcome.specs.FoundLaws.{InvalidIsNotRefuted};
+ghost use Rattle.esc_outcome.specs.GrownLaws.{EmptyIsGrown, FirstIsLegal, GrownByFact};
+ghost use Rattle.esc_outcome.specs.GrownLaws.{GrownByFirst, GrownBySplit, GrownElsewhere};
+ghost use Rattle.esc_outcome.specs.GrownLaws.{SplitsRunOutEarly};
 ghost use Rattle.esc_outcome.specs.JamLaws.{GivenAfterCall, GivenByMore, StopIsJam, ToldFollows};
 ghost use Rattle.esc_outcome.specs.TreeLaws.{DecidedStays, NewSidesAreFree, PathBelow, PathsStay};
 ghost use Rattle.esc_outcome.specs.TreeLaws.{RefutedByMore, RefutedStays, RootCloses, SidesClose};
@@ -30,4 +34,22 @@ pub fn tree_laws()
     ensures tree_stays { TreeStays }
     ensures free { NewSidesAreFree }
     ensures small { TreeIsSmall }
+{}
+
+/// A branch begins empty, and grows by a fact that what stands before it makes, by a split of an
+/// occurrence that is not decided, and by going to a side whose turn has come. Splits run out only
+/// where fewer are allowed than a tree can have.
+pub fn branch_laws()
+    ensures first { FirstIsLegal }
+    ensures empty { EmptyIsGrown }
+    ensures by_first { GrownByFirst }
+    ensures by_fact { GrownByFact }
+    ensures by_split { GrownBySplit }
+    ensures elsewhere { GrownElsewhere }
+    ensures splits { SplitsRunOutEarly }
+{}
+
+/// A base to which there is a counterexample is not refuted, where no fact has arithmetic.
+pub fn found_laws()
+    ensures not_refuted { InvalidIsNotRefuted }
 {}
