@@ -1,23 +1,20 @@
 -- How a branch of a search grows.
-use Rattle.std.proofs.Common.{◌≡◌, ◌⊎◌, ℕ, ◌<◌, ◌≤◌, ◌^◌, true, false, IsTrue, List, [], ◌∷◌, ◌++◌, Option, Some, None, length, map, get_or, refl, sym, ap, ap₂, subst, subst₂, ◌∙◌, inl, inr, arith}
-use Rattle.std.specs.Prelude.{slice_index_or}
-use Rattle.std.specs.List.{All, Any, Contains, cons_option, filter_map}
+use Rattle.std.proofs.Common.{◌≡◌, ◌⊎◌, ℕ, ◌<◌, ◌≤◌, ◌^◌, true, IsTrue, List, [], ◌∷◌, ◌++◌, Some, None, length, get_or, refl, sym, ap, ap₂, subst, subst₂, ◌∙◌, inl, inr, arith}
+use Rattle.std.specs.List.{Contains, filter_map}
 use Rattle.std.proofs.lemmas.List.{get_or_append_left, get_or_push, length-append, length_push}
-use Rattle.std.proofs.lemmas.List.Elements.{All-contains, All-cons, All-get_or, All-head, All-push, All-tail, All-weaker, Contains-append_left, filter_map-append}
+use Rattle.std.proofs.lemmas.List.Elements.{All-cons, All-get_or, All-head, All-push, All-tail, All-weaker, Contains-append_left, filter_map-append}
 use Rattle.esc_term.specs.declared.formula.Formula.{Formula}
 use Rattle.esc_clause.specs.declared.occurrence.Occurrence.{Occurrence}
 use Rattle.esc_fact.specs.Fact.{formula_of, formulas_of}
 use Rattle.esc_fact.specs.Legal.{IsLegalFront, is_first}
 use Rattle.esc_fact.specs.declared.base.Base.{Base}
 use Rattle.esc_fact.specs.declared.fact.Fact.{Fact}
-use Rattle.esc_outcome.specs.Causes.{IsOutOfSplits}
 use Rattle.esc_outcome.specs.Grown.{AreMet, EachIsMade, Grown, IsDoneIn, IsPlace, IsShallowAmong, makers_of}
 use Rattle.esc_outcome.specs.GrownLaws.{GrownByFact, GrownBySplit, GrownElsewhere, IsMadeOn, SplitsRunOutEarly, with_fact, with_split_of}
-use Rattle.esc_outcome.specs.Tree.{ComesInTurn, IsFree, IsOccurrence, IsRefutedAt, IsSideAmong, IsUndecidedAt, Side, SplitTree, path_formulas, said_by}
+use Rattle.esc_outcome.specs.Tree.{IsFree, IsOccurrence, IsRefutedAt, IsSideAmong, IsUndecidedAt, Side, SplitTree, path_formulas, said_by}
 use Rattle.esc_outcome.specs.TreeLaws.{occurrences_in}
 use Rattle.esc_outcome.specs.declared.branch.Branch.{Branch}
 use Rattle.esc_outcome.specs.declared.branch.Split.{Split}
-use Rattle.esc_outcome.specs.declared.limits.Limits.{Limits}
 use Rattle.esc_outcome.proofs.Decided.{decided_stays, refuted_by_more, refuted_stays}
 use Rattle.esc_outcome.proofs.Growing.{IsSideAmong-more, tree_grows, tree_stays, turn_for}
 use Rattle.esc_outcome.proofs.Paths.{paths_stay}

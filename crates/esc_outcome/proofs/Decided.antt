@@ -1,9 +1,9 @@
 -- What is decided on the paths of a tree, and which sides are refuted.
-use Rattle.std.proofs.Common.{◌≡◌, ℕ, ◌<◌, Bool, true, false, List, [], ◌∷◌, ◌++◌, Option, Some, None, not, append-nil, append_assoc, refl, sym, ap, ap₂, subst, ◌∙◌, inl, inr}
+use Rattle.std.proofs.Common.{◌≡◌, ℕ, Bool, true, false, List, [], ◌∷◌, ◌++◌, Option, Some, None, append-nil, append_assoc, refl, sym, ap, ap₂, subst, ◌∙◌, inl, inr}
 use Rattle.std.specs.Prelude.{IsSome, slice_get, if◌then◌else◌}
 use Rattle.std.specs.List.{All, Contains, cons_option, filter_map, fold}
 use Rattle.std.specs.Option.{option_and_then, option_map, option_map_or}
-use Rattle.std.proofs.lemmas.List.Elements.{All-append, All-contains, All-contains_itself, All-head, All-nil, All-push, All-tail, Contains-append_cases, Contains-append_left, Contains-append_right, Contains-get_or, filter_map-append}
+use Rattle.std.proofs.lemmas.List.Elements.{All-contains, All-head, All-nil, All-push, All-tail, Contains-append_cases, Contains-append_left, Contains-append_right, Contains-get_or, filter_map-append}
 use Rattle.std.proofs.lemmas.Option.{slice_get_cases}
 use Rattle.esc_term.specs.declared.formula.Formula.{Formula}
 use Rattle.esc_term.specs.declared.formula.Formula.TheVariants.{Not}
@@ -14,7 +14,7 @@ use Rattle.esc_clause.specs.Refinement.{are_alike}
 use Rattle.esc_clause.specs.declared.decision.Decision.{Decision}
 use Rattle.esc_clause.specs.declared.occurrence.Occurrence.{Occurrence}
 use Rattle.esc_sharing.proofs.Lists.{All-each}
-use Rattle.esc_outcome.specs.Tree.{IsOccurrence, IsRefutedAt, IsSideAmong, IsTree, Placed, Side, formulas_at, path_among, path_behind, path_formulas, path_of, placed, said_by, with_split}
+use Rattle.esc_outcome.specs.Tree.{IsOccurrence, IsRefutedAt, IsTree, Placed, Side, formulas_at, path_among, path_behind, path_formulas, path_of, placed, said_by, with_split}
 use Rattle.esc_outcome.specs.TreeLaws.{DecidedStays, RefutedByMore, RefutedStays, RootCloses, SidesClose}
 use Rattle.esc_outcome.specs.declared.branch.Split.{Split}
 use Rattle.esc_outcome.proofs.Paths.{path_below, paths_stay, slice_get_append_left}

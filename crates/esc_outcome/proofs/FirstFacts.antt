@@ -1,21 +1,21 @@
 -- The facts that name a formula of the base are a legal list, and a branch begins with them.
-use Rattle.std.proofs.Common.{◌≡◌, ◌≢◌, ◌⊎◌, ℕ, ◌<◌, ◌+◌, true, false, IsTrue, List, [], ◌∷◌, ◌++◌, Option, Some, None, length, map, get_or, append-nil, append_assoc, refl, sym, ap, subst, subst₂, ◌∙◌, inl, inr, lit<, arith}
-use Rattle.std.specs.Prelude.{IsSome, slice_get}
-use Rattle.std.specs.List.{All, AllPairs, Contains, cons_option, range_with_len}
+use Rattle.std.proofs.Common.{◌≡◌, ◌≢◌, ◌⊎◌, ℕ, ◌<◌, IsTrue, List, [], ◌∷◌, ◌++◌, Option, Some, None, length, map, get_or, append-nil, append_assoc, refl, sym, subst, ◌∙◌, inl, inr, lit<, arith}
+use Rattle.std.specs.Prelude.{IsSome}
+use Rattle.std.specs.List.{All, AllPairs, cons_option, range_with_len}
 use Rattle.std.specs.Option.{option_map}
-use Rattle.std.proofs.lemmas.List.Elements.{All-append, All-contains, All-cons, All-nil, All-push, Contains-append_right}
+use Rattle.std.proofs.lemmas.List.Elements.{All-append, All-contains, All-cons, All-nil, Contains-append_right}
 use Rattle.std.proofs.lemmas.List.FromFn.{get_or-map-range_with_len, length-map-range_with_len}
 use Rattle.std.proofs.lemmas.List.Quantifiers.{all_pairs_push}
 use Rattle.std.proofs.lemmas.Option.{slice_get_cases}
 use Rattle.esc_term.specs.declared.formula.Formula.{Formula}
 use Rattle.esc_term.proofs.Members.{Contains-here}
-use Rattle.esc_fact.specs.Fact.{IsFact, formula_of, formulas_of}
-use Rattle.esc_fact.specs.Legal.{IsDrawnFrom, IsLegal, IsLegalFront, first_facts, is_first}
+use Rattle.esc_fact.specs.Fact.{IsFact, formulas_of}
+use Rattle.esc_fact.specs.Legal.{IsDrawnFrom, IsLegal, first_facts, is_first}
 use Rattle.esc_fact.specs.declared.base.Base.{Base}
 use Rattle.esc_fact.specs.declared.fact.Fact.{Fact}
 use Rattle.esc_fact.specs.declared.fact.Fact.TheVariants as fact
-use Rattle.esc_outcome.specs.Grown.{AreMet, Grown, IsDoneIn, IsMet, IsPlace, IsShallowAmong, makers_of}
-use Rattle.esc_outcome.specs.GrownLaws.{EmptyIsGrown, FirstIsLegal, GrownByFirst, IsMadeOn, empty_branch, with_fact}
+use Rattle.esc_outcome.specs.Grown.{AreMet, IsDoneIn, IsMet, IsPlace, IsShallowAmong, makers_of}
+use Rattle.esc_outcome.specs.GrownLaws.{EmptyIsGrown, FirstIsLegal, GrownByFirst, empty_branch}
 use Rattle.esc_outcome.specs.Tree.{AreDifferent, ComesInTurn, IsOccurrence, Placed, named_by, placed}
 use Rattle.esc_outcome.specs.declared.branch.Split.{Split}
 use Rattle.esc_outcome.proofs.Branches.{grown_fact, some_behind}

@@ -1,5 +1,5 @@
 -- What follows from formulas by way of literals.
-use Rattle.std.proofs.Common.{◌≡◌, Bool, true, false, List, not, sym, ◌∙◌}
+use Rattle.std.proofs.Common.{◌≡◌, Bool, true, false, List, sym, ◌∙◌}
 use Rattle.std.specs.Prelude.{if◌then◌else◌}
 use Rattle.std.specs.List.{All}
 use Rattle.std.proofs.lemmas.Bool.Decides.{Decides-int_eq}

@@ -1,9 +1,9 @@
 -- Trees of splits that grow.
-use Rattle.std.proofs.Common.{◌≡◌, ◌≢◌, ℕ, ◌<◌, ◌≤◌, Bool, true, false, List, [], ◌∷◌, ◌++◌, Option, Some, None, length, map, get_or, refl, sym, ap, subst, ◌∙◌, inl, inr, arith}
+use Rattle.std.proofs.Common.{◌≡◌, ◌≢◌, ℕ, ◌<◌, ◌≤◌, true, false, List, [], ◌∷◌, ◌++◌, Some, None, length, map, get_or, sym, ap, subst, ◌∙◌, inl, inr, arith}
 use Rattle.std.specs.Prelude.{IsSome, slice_get}
-use Rattle.std.specs.List.{All, AllPairs, Contains, fold}
+use Rattle.std.specs.List.{All, Contains}
 use Rattle.std.specs.Option.{option_map_or}
-use Rattle.std.proofs.lemmas.List.{get_or_append_left, get_or_push, length_push, map_push}
+use Rattle.std.proofs.lemmas.List.{get_or_push, length_push, map_push}
 use Rattle.std.proofs.lemmas.List.Elements.{All-contains, All-map, All-push, All-weaker, Contains-get_or}
 use Rattle.std.proofs.lemmas.List.Quantifiers.{all_pairs_push}
 use Rattle.std.proofs.lemmas.Option.{get_or_from_slice_get, slice_get-get_or, slice_get_cases, slice_get_within}
@@ -11,8 +11,7 @@ use Rattle.esc_term.specs.declared.formula.Formula.{Formula}
 use Rattle.esc_clause.specs.Refinement.{is_same_place}
 use Rattle.esc_clause.specs.declared.decision.Decision.{Decision}
 use Rattle.esc_clause.specs.declared.occurrence.Occurrence.{Occurrence}
-use Rattle.esc_sharing.proofs.Lists.{All-each}
-use Rattle.esc_outcome.specs.Tree.{AreDifferent, ComesInTurn, IsFree, IsOccurrence, IsRefutedAt, IsSideAmong, IsTree, IsUndecidedAt, NamesOnce, Placed, Side, SplitTree, named_by, path_among, path_behind, path_of, placed, with_split}
+use Rattle.esc_outcome.specs.Tree.{AreDifferent, ComesInTurn, IsFree, IsOccurrence, IsRefutedAt, IsSideAmong, IsTree, IsUndecidedAt, NamesOnce, Placed, Side, SplitTree, named_by, path_among, path_behind, path_of, placed}
 use Rattle.esc_outcome.specs.TreeLaws.{NewSidesAreFree, TreeGrows, TreeStays}
 use Rattle.esc_outcome.specs.declared.branch.Split.{Split}
 use Rattle.esc_outcome.proofs.Decided.{formula_at-more, refuted_by_more, refuted_stays}

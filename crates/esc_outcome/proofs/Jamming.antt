@@ -1,5 +1,5 @@
 -- A stop is a jam of the formulas that gave the arithmetic its terms.
-use Rattle.std.proofs.Common.{◌≡◌, ◌≢◌, ◌↔◌, ℕ, ◌<◌, ◌≤◌, List, [], ◌∷◌, ◌++◌, Option, Some, None, map, length, take, drop, get_or, append_assoc, refl, sym, ap, subst, ◌∙◌, inl, inr, arith}
+use Rattle.std.proofs.Common.{◌≡◌, ◌≢◌, ◌↔◌, ℕ, List, [], ◌∷◌, ◌++◌, Option, Some, None, length, take, drop, append_assoc, refl, sym, ap, subst, ◌∙◌, inl, inr, arith}
 use Rattle.std.specs.List.{All, Contains, flat_map}
 use Rattle.std.proofs.lemmas.List.{get_or_append_left, length-append, take-append-drop}
 use Rattle.std.proofs.Math.Seq.{take-append_seam}
@@ -15,24 +15,23 @@ use Rattle.esc_tableau.specs.declared.answers.Step.{Step}
 use Rattle.esc_tableau.specs.declared.answers.Step.TheVariants.{Row, Ratio, Pivot}
 use Rattle.esc_tableau.specs.declared.listed.Rows.{Rows}
 use Rattle.esc_cover.specs.Assignment.{Assignment, Gap, NoneNegative, asked}
-use Rattle.esc_simplex.specs.Barred.{AreKeptRows, AreRowsAt, AreSensesAt, IsBarred, KeepsRows, KeptRunIsSpent, KeptStepJams, MayBeMade}
-use Rattle.esc_simplex.specs.Senses.{IsPointOf, Sense, StandsFor, gap_of, sense_at, sense_fraction, term, term_at}
-use Rattle.esc_simplex.specs.View.{Allows, IsSimplex, numbers_in, senses_in}
+use Rattle.esc_simplex.specs.Barred.{AreRowsAt, AreSensesAt, IsBarred, KeepsRows, KeptRunIsSpent, KeptStepJams, MayBeMade}
+use Rattle.esc_simplex.specs.Senses.{IsPointOf, Sense, StandsFor, gap_of, sense_fraction, term, term_at}
+use Rattle.esc_simplex.specs.View.{Allows, numbers_in, senses_in}
 use Rattle.esc_simplex.specs.declared.simplex.Simplex.{Simplex}
 use Rattle.esc_simplex.specs.declared.stop.Stop.{Stop}
 use Rattle.esc_simplex.specs.declared.stop.Stop.TheVariants as stop
 use Rattle.esc_simplex.proofs.Gapped.{stands_for_made}
 use Rattle.esc_simplex.proofs.Points.{allows_from, within_from}
-use Rattle.esc_sharing.specs.Admitted.{both_gaps}
 use Rattle.esc_sharing.specs.Numbers.{IsGapOf, IsNumber, number_terms}
-use Rattle.esc_sharing.specs.Shared.{AreToldIn, Shared, items_in, told_in}
+use Rattle.esc_sharing.specs.Shared.{AreToldIn, items_in, told_in}
 use Rattle.esc_sharing.specs.Nodes.{node_term}
 use Rattle.esc_sharing.specs.Stops.{UnlessMemory}
 use Rattle.esc_sharing.specs.declared.sharing.Sharing.{Sharing}
 use Rattle.esc_sharing.proofs.BoundNodes.{for_bound, term_is_number}
 use Rattle.esc_sharing.proofs.Least.{number_of_node}
 use Rattle.esc_sharing.proofs.Lists.{All-each, Contains-of_map}
-use Rattle.esc_outcome.specs.Jam.{IsJam, IsNumberOf, IsSenseOf, JamsAs, KeepsRowsOf, RestrictsAs}
+use Rattle.esc_outcome.specs.Jam.{IsNumberOf, IsSenseOf, JamsAs, KeepsRowsOf, RestrictsAs}
 use Rattle.esc_outcome.specs.JamLaws.{StopIsJam, StopsAt, meanings_in, shared_in, stuck_with}
 use Rattle.esc_outcome.specs.declared.stuck.Meaning.{Meaning}
 use Rattle.esc_outcome.specs.declared.stuck.Stuck.{Stuck}

@@ -1,5 +1,5 @@
 -- The arithmetic terms of formulas: with one, what it is made of; and with more formulas, no fewer.
-use Rattle.std.proofs.Common.{◌≡◌, Bool, true, false, ◌||◌, List, [], ◌∷◌, ◌++◌, map, refl, sym, ap, subst, ◌∙◌, inl, inr}
+use Rattle.std.proofs.Common.{◌≡◌, true, List, ◌∷◌, map, refl, sym, ap, subst, ◌∙◌, inl, inr}
 use Rattle.std.specs.List.{All, Contains, flat_map}
 use Rattle.std.proofs.lemmas.List.Elements.{All-contains, All-map}
 use Rattle.esc_term.specs.declared.term.Head.{Head}
@@ -24,7 +24,7 @@ use Rattle.esc_cover.specs.Classes.{active_terms, has}
 use Rattle.esc_cover.proofs.ActiveTerms.{active, of_active}
 use Rattle.esc_cover.proofs.TestLemmas.{all_at, has-at, has-found, kept, of_kept, or_cases, or_left, or_right}
 use Rattle.esc_simplex.specs.Senses.{Sense, gap_of, term}
-use Rattle.esc_sharing.specs.Numbers.{AddsMade, IsGapOf, MayStandFor, with_parts}
+use Rattle.esc_sharing.specs.Numbers.{MayStandFor, with_parts}
 use Rattle.esc_sharing.proofs.Lists.{All-each}
 use Rattle.esc_outcome.specs.Jam.{IsNumberOf, IsSenseOf}
 use Rattle.esc_outcome.proofs.FormParts.{HasOperands, parts_within}

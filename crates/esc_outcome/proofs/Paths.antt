@@ -1,16 +1,13 @@
 -- The paths of a tree of splits.
-use Rattle.std.proofs.Common.{◌≡◌, ℕ, ◌<◌, ◌≤◌, ◌+◌, suc, Bool, List, [], ◌∷◌, ◌++◌, Option, Some, None, length, take, drop, get_or, refl, sym, ap, subst, zero-add, ◌∙◌, inl, inr, arith}
+use Rattle.std.proofs.Common.{◌≡◌, ℕ, ◌<◌, ◌+◌, suc, List, [], ◌∷◌, ◌++◌, Some, None, length, take, drop, refl, sym, ap, subst, zero-add, ◌∙◌, inl, inr, arith}
 use Rattle.std.specs.Prelude.{slice_get}
-use Rattle.std.specs.List.{All, fold}
+use Rattle.std.specs.List.{fold}
 use Rattle.std.specs.Option.{option_map_or}
 use Rattle.std.proofs.Math.Seq.{drop-cons}
 use Rattle.std.proofs.lemmas.List.{get_or_append_left, get_or_push, length-append, length-take-le, length_push, take-append-drop}
 use Rattle.std.proofs.lemmas.List.Sums.{fold-append}
-use Rattle.std.proofs.lemmas.List.Elements.{All-append, All-contains, All-nil, All-push, All-tail, All-head}
 use Rattle.std.proofs.lemmas.Option.{get_or_from_slice_get, slice_get-get_or, slice_get_cases, slice_get_within}
-use Rattle.esc_clause.specs.declared.decision.Decision.{Decision}
-use Rattle.esc_clause.specs.declared.occurrence.Occurrence.{Occurrence}
-use Rattle.esc_outcome.specs.Tree.{IsSideAmong, IsTree, Placed, Side, path_among, path_behind, path_of, placed, with_split}
+use Rattle.esc_outcome.specs.Tree.{IsSideAmong, IsTree, Placed, path_among, path_behind, path_of, placed, with_split}
 use Rattle.esc_outcome.specs.TreeLaws.{PathBelow, PathsStay}
 use Rattle.esc_outcome.specs.declared.branch.Split.{Split}
 

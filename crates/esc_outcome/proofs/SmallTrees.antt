@@ -1,18 +1,17 @@
 -- A tree of splits that names each occurrence at most once on a path is small: the ways to its
 -- splits, read as numbers in base two behind a leading one, differ and are below a power of two.
-use Rattle.std.proofs.Common.{◌≡◌, ◌≢◌, ℕ, zero, suc, ◌<◌, ◌≤◌, ◌+◌, ◌^◌, Bool, true, false, cond, List, [], ◌∷◌, ◌++◌, Option, Some, None, length, map, take, drop, get_or, refl, sym, ap, ap₂, subst, subst₂, ◌∙◌, inl, inr, lit<, lit≤, arith}
+use Rattle.std.proofs.Common.{◌≡◌, ◌≢◌, ℕ, zero, suc, ◌<◌, ◌≤◌, ◌+◌, ◌^◌, Bool, true, false, List, [], ◌∷◌, ◌++◌, Some, None, length, map, get_or, refl, sym, ap, ap₂, subst, ◌∙◌, inl, inr, lit<, lit≤, arith}
 use Rattle.std.specs.Prelude.{slice_get}
 use Rattle.std.specs.List.{All, AllPairs, fold}
 use Rattle.std.proofs.Math.Nat.{one-le-pow, pow-le-pow_right, pow-suc}
 use Rattle.std.proofs.lemmas.Bool.{cases_order}
-use Rattle.std.proofs.lemmas.List.{length-map, length_push, take-append-drop}
-use Rattle.std.proofs.lemmas.List.Elements.{All-cons, All-get_or, All-map, All-push, Contains-get_or}
+use Rattle.std.proofs.lemmas.List.{length-map, length_push}
+use Rattle.std.proofs.lemmas.List.Elements.{All-cons, All-get_or, All-map, All-push}
 use Rattle.std.proofs.lemmas.List.Kept.{AllPairs-cons}
 use Rattle.std.proofs.lemmas.List.Sums.{fold_push}
 use Rattle.std.proofs.lemmas.Option.{get_or_from_slice_get, slice_get-get_or, slice_get_cases, slice_get_within}
 use Rattle.esc_term.specs.declared.formula.Formula.{Formula}
 use Rattle.esc_clause.specs.declared.decision.Decision.{Decision}
-use Rattle.esc_clause.specs.declared.occurrence.Occurrence.{Occurrence}
 use Rattle.esc_outcome.specs.Tree.{AreDifferent, IsOccurrence, IsSideAmong, IsTree, NamesOnce, Placed, Side, named_by, path_of, placed}
 use Rattle.esc_outcome.specs.TreeLaws.{TreeIsSmall, occurrences_in}
 use Rattle.esc_outcome.specs.declared.branch.Split.{Split}

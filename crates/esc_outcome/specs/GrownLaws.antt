@@ -1,6 +1,6 @@
 -- How a branch of a search grows.
 use Rattle.std.specs.Prelude.{◌≡◌, ◌⊎◌, ◌<◌, ℕ, ◌^◌, true, IsTrue, List, [], ◌∷◌, ◌++◌, length}
-use Rattle.std.specs.Prelude.{Some, None, take}
+use Rattle.std.specs.Prelude.{Some, None}
 use Rattle.esc_clause.specs.declared.occurrence.Occurrence.{Occurrence}
 use Rattle.esc_fact.specs.Fact.{formulas_of}
 use Rattle.esc_fact.specs.Legal.{IsLegal, IsLegalFront, first_facts, is_first}
@@ -11,7 +11,6 @@ use Rattle.esc_outcome.specs.Grown.{AreMet, Grown, IsDoneIn, IsPlace, IsShallowA
 use Rattle.esc_outcome.specs.Tree.{IsFree, IsOccurrence, IsUndecidedAt, Side, path_formulas}
 use Rattle.esc_outcome.specs.TreeLaws.{occurrences_in}
 use Rattle.esc_outcome.specs.declared.branch.Branch.{Branch}
-use Rattle.esc_outcome.specs.declared.branch.Split.{Split}
 use Rattle.esc_outcome.specs.declared.limits.Limits.{Limits}
 
 -- ---- the beginning
