@@ -3,12 +3,16 @@ pub mod Branches
 pub mod Counting
 pub mod Decided
 pub mod FirstFacts
+pub mod FittingRows
 pub mod Following
 pub mod FormParts
 pub mod Giving
 pub mod Growing
 pub mod Jamming
+pub mod NoColumns
+pub mod NoJam
 pub mod NotRefuted
 pub mod Numbers
+pub mod Numerals
 pub mod Paths
 pub mod SmallTrees

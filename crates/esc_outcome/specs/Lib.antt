@@ -1,6 +1,7 @@
 pub mod Causes
 pub mod Found
 pub mod FoundLaws
+pub mod FreeLaws
 pub mod Grown
 pub mod GrownLaws
 pub mod Jam

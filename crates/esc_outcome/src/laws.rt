@@ -1,6 +1,7 @@
 //! What holds of what a search comes to. The functions state it, and do nothing.
 
 ghost use Rattle.esc_outcome.specs.FoundLaws.{InvalidIsNotRefuted};
+ghost use Rattle.esc_outcome.specs.FreeLaws.{FreeHasNoJam};
 ghost use Rattle.esc_outcome.specs.GrownLaws.{EmptyIsGrown, FirstIsLegal, GrownByFact};
 ghost use Rattle.esc_outcome.specs.GrownLaws.{GrownByFirst, GrownBySplit, GrownElsewhere};
 ghost use Rattle.esc_outcome.specs.GrownLaws.{SplitsRunOutEarly};
@@ -10,12 +11,14 @@ ghost use Rattle.esc_outcome.specs.TreeLaws.{RefutedByMore, RefutedStays, RootCl
 ghost use Rattle.esc_outcome.specs.TreeLaws.{TreeGrows, TreeIsSmall, TreeStays};
 
 /// A stop of the arithmetic is a jam of the formulas that gave it its terms, and the pairs that it
-/// was told follow from these formulas where its literals do.
+/// was told follow from these formulas where its literals do. Formulas without arithmetic have no
+/// jam.
 pub fn jam_laws()
     ensures jam { StopIsJam }
     ensures told { ToldFollows }
     ensures more { GivenByMore }
     ensures after_call { GivenAfterCall }
+    ensures free { FreeHasNoJam }
 {}
 
 /// What is decided on the paths of a tree of splits, and refuted there, stays so when splits and
