@@ -63,7 +63,7 @@ module _ (P : Occurrence → Type 0) where
 
 -- ---- more formulas
 
-not_none : (o : Option Formula) → o ≡ None → IsSome o → ⊥
+pub not_none : {X : Type 0} (o : Option X) → o ≡ None → IsSome o → ⊥
 not_none None e h = cc
 not_none (Some f) e h = cc
 

@@ -1,10 +1,10 @@
 -- Whole numbers that are small can be added and multiplied, so that the row of a gap of numerals
 -- can be made.
-use Rattle.std.proofs.Common.{◌≡◌, ℕ, ◌<◌, ◌/◌, ◌*◌, ◌^◌, ℤ, pos, neg_ℤ, ◌+ℤ◌, ◌*ℤ◌, Bool, true, false, cond, nat_lt, List, [], ◌∷◌, length, get_or, replicate, refl, sym, ap, ap₂, subst, subst₂, ◌∙◌, lit<, arith}
-use Rattle.std.specs.Prelude.{int_div, unsigned_abs}
-use Rattle.std.proofs.lemmas.Bool.{cond-false, le-ltb}
+use Rattle.std.proofs.Common.{◌≡◌, ℕ, ◌<◌, ◌/◌, ◌*◌, ◌^◌, ℤ, pos, neg_ℤ, ◌+ℤ◌, ◌*ℤ◌, Bool, true, false, cond, nat_lt, [], length, replicate, refl, sym, ap, subst, subst₂, ◌∙◌, lit<, arith}
+use Rattle.std.specs.Prelude.{unsigned_abs}
+use Rattle.std.proofs.lemmas.Bool.{le-ltb}
 use Rattle.std.proofs.lemmas.Int.{ints}
-use Rattle.esc_frac.specs.Fits.{Fits, ProductFits, SumFits, common_den, over_common, reduced_den, reduced_num}
+use Rattle.esc_frac.specs.Fits.{Fits, ProductFits, SumFits, over_common}
 use Rattle.esc_frac.specs.Gcd.{gcd}
 use Rattle.esc_frac.specs.Rational.{ℚ, whole, zero_ℚ, one_ℚ, neg_ℚ, ◌+ℚ◌, ◌*ℚ◌}
 use Rattle.esc_frac.proofs.ShortWays.{int_div-gcd_one}

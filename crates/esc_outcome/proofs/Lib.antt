@@ -15,4 +15,5 @@ pub mod NotRefuted
 pub mod Numbers
 pub mod Numerals
 pub mod Paths
+pub mod PlainBases
 pub mod SmallTrees

@@ -1,5 +1,5 @@
 -- Rows of unknowns whose values are fixed have no column, and so no pivot.
-use Rattle.std.proofs.Common.{◌≡◌, ◌≢◌, ℕ, zero, suc, ◌<◌, ◌≤◌, ℤ, pos, Bool, true, false, cond, nat_lt, List, Option, Some, None, length, get_or, refl, sym, ap, ap₂, subst, ◌∙◌, inl, inr, arith}
+use Rattle.std.proofs.Common.{◌≡◌, ℕ, zero, suc, ◌<◌, pos, Bool, true, false, cond, nat_lt, List, Option, Some, None, length, get_or, refl, sym, ap, ap₂, subst, ◌∙◌, inl, inr, arith}
 use Rattle.std.specs.List.{All}
 use Rattle.std.proofs.lemmas.Bool.{cases_lt, cond-false, le-ltb}
 use Rattle.std.proofs.lemmas.Int.{ints}
@@ -9,17 +9,15 @@ use Rattle.esc_frac.specs.Rational.{ℚ, zero_ℚ, one_ℚ}
 use Rattle.esc_frac.specs.Sign.{sign_of}
 use Rattle.esc_frac.proofs.WholeLaws.{whole_same}
 use Rattle.esc_tableau.specs.Rule.{entering, first, improving, is_positive, next, next_by_move, or_next, slope, way}
-use Rattle.esc_tableau.specs.Run.{EndsSpent, GoesOn, RatioJams, PivotJams, pivot_run}
-use Rattle.esc_tableau.specs.Table.{Table, IsTable, column, column_of, nobody, sample, size}
+use Rattle.esc_tableau.specs.Table.{Table, column, column_of, nobody, sample, size}
 use Rattle.esc_tableau.specs.declared.answers.Peak.TheVariants.{NotPositive, Positive}
 use Rattle.esc_tableau.specs.declared.answers.Step.{Step}
 use Rattle.esc_tableau.specs.declared.answers.Step.TheVariants.{Row, Ratio, Pivot}
-use Rattle.esc_tableau.specs.declared.rule.Move.{Move}
 use Rattle.esc_tableau.specs.declared.rule.Next.TheVariants.{Stops, Pivots}
 use Rattle.esc_tableau.proofs.MoveLaws.{IsSolution-along, along, along-column_same}
 use Rattle.esc_tableau.proofs.Places.{column_below}
-use Rattle.esc_simplex.specs.Barred.{AreKeptRows, KeptRunIsSpent, MaximisingJams, RayJams}
-use Rattle.esc_simplex.specs.Senses.{Sense, sense_at, sense_fraction, term}
+use Rattle.esc_simplex.specs.Barred.{AreKeptRows, KeptRunIsSpent, MaximisingJams}
+use Rattle.esc_simplex.specs.Senses.{Sense, term}
 use Rattle.esc_outcome.proofs.Numerals.{IsFixed}
 
 -- ---- no column

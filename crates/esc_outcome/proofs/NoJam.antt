@@ -1,14 +1,13 @@
 -- Formulas without arithmetic have no jam.
-use Rattle.std.proofs.Common.{◌≡◌, ℕ, ◌<◌, ◌^◌, ℤ, pos, true, List, [], ◌∷◌, Option, Some, None, cond, length, get_or, refl, sym, ap, subst, subst₂, ◌∙◌, arith}
-use Rattle.std.specs.Prelude.{unsigned_abs}
+use Rattle.std.proofs.Common.{◌≡◌, ℕ, ℤ, true, List, [], ◌∷◌, Option, Some, None, refl, sym, ap, subst, subst₂, ◌∙◌}
 use Rattle.std.specs.List.{All, AllZip, Contains, list_all}
 use Rattle.std.proofs.lemmas.List.Elements.{All-nil, All-weaker}
 use Rattle.esc_term.specs.declared.term.Term.{Term}
 use Rattle.esc_term.specs.declared.term.Term.TheVariants.{Num}
 use Rattle.esc_term.specs.declared.formula.Formula.{Formula}
-use Rattle.esc_frac.specs.Rational.{ℚ, neg_ℚ, one_ℚ, whole, zero_ℚ, ◌+ℚ◌}
+use Rattle.esc_frac.specs.Rational.{ℚ, neg_ℚ, whole, ◌+ℚ◌}
 use Rattle.esc_linear.specs.Forms.{form}
-use Rattle.esc_linear.specs.Steps.{AllFit, Step as FormStep, StepFits as FormStepFits, steps}
+use Rattle.esc_linear.specs.Steps.{AllFit, StepFits as FormStepFits, steps}
 use Rattle.esc_linear.specs.declared.form.Part.{Part as Addend}
 use Rattle.esc_linear.proofs.FormLevels.{form-Num, steps-Num}
 use Rattle.esc_tableau.specs.Changes.{PartsFit, start_sum}
@@ -18,13 +17,13 @@ use Rattle.esc_tableau.specs.declared.answers.Step.{Step}
 use Rattle.esc_tableau.specs.declared.answers.Step.TheVariants.{Row, Ratio, Pivot}
 use Rattle.esc_tableau.specs.declared.changing.Part.{Part}
 use Rattle.esc_tableau.proofs.SampleLaws.{IsSolution-sample}
-use Rattle.esc_cover.specs.Assignment.{Assignment, Gap}
+use Rattle.esc_cover.specs.Assignment.{Assignment}
 use Rattle.esc_cover.specs.Classes.{active_terms}
 use Rattle.esc_cover.specs.Counterexample.{fraction}
 use Rattle.esc_cover.specs.Laws.{is_free_of_arithmetic}
 use Rattle.esc_simplex.specs.Barred.{AreKeptRows, IsAddendOf, KeptStepJams, RowJams}
 use Rattle.esc_simplex.specs.Senses.{Sense, StandsFor, gap_of, sense_fraction, term}
-use Rattle.esc_simplex.specs.Steps.{gap_constant, gap_parts}
+use Rattle.esc_simplex.specs.Steps.{gap_constant}
 use Rattle.esc_simplex.specs.declared.stop.Stop.{Stop}
 use Rattle.esc_simplex.specs.declared.stop.Stop.TheVariants as stop
 use Rattle.esc_simplex.proofs.Rowed.{gap_fraction}

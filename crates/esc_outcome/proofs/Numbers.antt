@@ -82,7 +82,7 @@ module _ (fs gs : List Formula) (among : All (Contains gs) fs) where
       Contains-in_flat_map f gs found.0 x (All-contains (Contains gs) fs found.0 among found.1)
       found.2
 
-  active-among : (t : Term) → Contains (active_terms fs) t → Contains (active_terms gs) t
+  pub active-among : (t : Term) → Contains (active_terms fs) t → Contains (active_terms gs) t
   active-among t h =
       let found = of_active fs t h in
       active gs t

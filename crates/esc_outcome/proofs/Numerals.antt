@@ -1,7 +1,6 @@
 -- Where formulas have no arithmetic, their arithmetic terms are numerals, whose values are fixed.
-use Rattle.std.proofs.Common.{◌≡◌, ◌⊎◌, ℕ, ℤ, Bool, true, false, true≢false, not, ◌||◌, List, [], ◌∷◌, map, refl, sym, ap, ap₂, subst, ◌∙◌, inl, inr}
-use Rattle.std.specs.Prelude.{IsTrue}
-use Rattle.std.specs.List.{All, Contains, flat_map, list_all}
+use Rattle.std.proofs.Common.{◌≡◌, ℤ, true, not, List, [], refl, sym, ap, subst, ◌∙◌, inl, inr}
+use Rattle.std.specs.List.{Contains, flat_map, list_all}
 use Rattle.esc_term.specs.declared.term.Head.TheVariants.{Add, Sub, Mul, Name, Skolem}
 use Rattle.esc_term.specs.declared.term.Term.{Term, out-Term}
 use Rattle.esc_term.specs.declared.term.Term.TheVariants.{Num, rolls-App, rolls-Num}
@@ -14,24 +13,21 @@ use Rattle.esc_term.specs.Formula.{terms_of}
 use Rattle.esc_term.specs.Interpretation.{domain_of}
 use Rattle.esc_term.specs.Term.{truth_term}
 use Rattle.esc_term.proofs.Members.{Contains-cases, Contains-flat_map, Contains-none}
-use Rattle.esc_frac.specs.Rational.{ℚ, whole, ◌+ℚ◌, neg_ℚ}
-use Rattle.esc_linear.specs.Forms.{constant_form, form}
+use Rattle.esc_frac.specs.Rational.{ℚ, whole}
 use Rattle.esc_linear.specs.Laws.{form_value}
 use Rattle.esc_linear.proofs.FormLevels.{form-Num}
 use Rattle.esc_linear.proofs.ValueLaw.{value-constant}
 use Rattle.esc_cover.specs.Arithmetic.{is_arithmetic, is_arithmetic_in, is_number, is_number_form, operands, operands_form, order_sides, order_sides_form}
-use Rattle.esc_cover.specs.Assignment.{Assignment, Gap}
+use Rattle.esc_cover.specs.Assignment.{Assignment}
 use Rattle.esc_cover.specs.Atoms.{atoms_of}
 use Rattle.esc_cover.specs.Classes.{active_terms, has}
 use Rattle.esc_cover.specs.Counterexample.{fraction}
 use Rattle.esc_cover.specs.Laws.{is_free_form, is_free_of_arithmetic, is_order_form}
 use Rattle.esc_cover.proofs.ActiveTerms.{of_active}
 use Rattle.esc_cover.proofs.TestLemmas.{all_at, and_left, and_right, has-found, of_kept, or_cases}
-use Rattle.esc_simplex.specs.Senses.{Sense, gap_of, sense_fraction, term}
-use Rattle.esc_simplex.specs.Steps.{gap_constant}
+use Rattle.esc_simplex.specs.Senses.{Sense, sense_fraction}
 use Rattle.esc_simplex.proofs.FormValue.{given, value-form}
-use Rattle.esc_simplex.proofs.Rowed.{gap_fraction}
-use Rattle.esc_outcome.specs.Jam.{IsNumberOf, IsSenseOf}
+use Rattle.esc_outcome.specs.Jam.{IsNumberOf}
 
 -- ---- forms of terms
 

@@ -7,5 +7,6 @@ pub mod GrownLaws
 pub mod Jam
 pub mod JamLaws
 pub mod Labels
+pub mod PlainLaws
 pub mod Tree
 pub mod TreeLaws
