@@ -1,17 +1,23 @@
 -- How a branch of a search grows.
-use Rattle.std.proofs.Common.{◌≡◌, ◌⊎◌, ℕ, ◌<◌, ◌≤◌, ◌^◌, true, IsTrue, List, [], ◌∷◌, ◌++◌, Some, None, length, get_or, refl, sym, ap, ap₂, subst, subst₂, ◌∙◌, inl, inr, arith}
+use Rattle.std.proofs.Common.{◌≡◌, ◌⊎◌, ℕ, ◌<◌, ◌≤◌, ◌^◌, true, IsTrue, List, [], ◌∷◌, ◌++◌, Some}
+use Rattle.std.proofs.Common.{None, length, get_or, refl, sym, ap, ap₂, subst, subst₂, ◌∙◌, inl}
+use Rattle.std.proofs.Common.{inr, arith}
 use Rattle.std.specs.List.{Contains, filter_map}
 use Rattle.std.proofs.lemmas.List.{get_or_append_left, get_or_push, length-append, length_push}
-use Rattle.std.proofs.lemmas.List.Elements.{All-cons, All-get_or, All-head, All-push, All-tail, All-weaker, Contains-append_left, filter_map-append}
+use Rattle.std.proofs.lemmas.List.Elements.{All-cons, All-get_or, All-head, All-push, All-tail}
+use Rattle.std.proofs.lemmas.List.Elements.{All-weaker, Contains-append_left, filter_map-append}
 use Rattle.esc_term.specs.declared.formula.Formula.{Formula}
 use Rattle.esc_clause.specs.declared.occurrence.Occurrence.{Occurrence}
 use Rattle.esc_fact.specs.Fact.{formula_of, formulas_of}
 use Rattle.esc_fact.specs.Legal.{IsLegalFront, is_first}
 use Rattle.esc_fact.specs.declared.base.Base.{Base}
 use Rattle.esc_fact.specs.declared.fact.Fact.{Fact}
-use Rattle.esc_outcome.specs.Grown.{AreMet, EachIsMade, Grown, IsDoneIn, IsPlace, IsShallowAmong, makers_of}
-use Rattle.esc_outcome.specs.GrownLaws.{GrownByFact, GrownBySplit, GrownElsewhere, IsMadeOn, SplitsRunOutEarly, with_fact, with_split_of}
-use Rattle.esc_outcome.specs.Tree.{IsFree, IsOccurrence, IsRefutedAt, IsSideAmong, IsUndecidedAt, Side, SplitTree, path_formulas, said_by}
+use Rattle.esc_outcome.specs.Grown.{AreMet, EachIsMade, Grown, IsDoneIn, IsPlace, IsShallowAmong}
+use Rattle.esc_outcome.specs.Grown.{makers_of}
+use Rattle.esc_outcome.specs.GrownLaws.{GrownByFact, GrownBySplit, GrownElsewhere, IsMadeOn}
+use Rattle.esc_outcome.specs.GrownLaws.{SplitsRunOutEarly, with_fact, with_split_of}
+use Rattle.esc_outcome.specs.Tree.{IsFree, IsOccurrence, IsRefutedAt, IsSideAmong, IsUndecidedAt}
+use Rattle.esc_outcome.specs.Tree.{Side, SplitTree, path_formulas, said_by}
 use Rattle.esc_outcome.specs.TreeLaws.{occurrences_in}
 use Rattle.esc_outcome.specs.declared.branch.Branch.{Branch}
 use Rattle.esc_outcome.specs.declared.branch.Split.{Split}

@@ -1,9 +1,13 @@
 -- What is decided on the paths of a tree, and which sides are refuted.
-use Rattle.std.proofs.Common.{◌≡◌, ℕ, Bool, true, false, List, [], ◌∷◌, ◌++◌, Option, Some, None, append-nil, append_assoc, refl, sym, ap, ap₂, subst, ◌∙◌, inl, inr}
+use Rattle.std.proofs.Common.{◌≡◌, ℕ, Bool, true, false, List, [], ◌∷◌, ◌++◌, Option, Some, None}
+use Rattle.std.proofs.Common.{append-nil, append_assoc, refl, sym, ap, ap₂, subst, ◌∙◌, inl, inr}
 use Rattle.std.specs.Prelude.{IsSome, slice_get, if◌then◌else◌}
 use Rattle.std.specs.List.{All, Contains, cons_option, filter_map, fold}
 use Rattle.std.specs.Option.{option_and_then, option_map, option_map_or}
-use Rattle.std.proofs.lemmas.List.Elements.{All-contains, All-head, All-nil, All-push, All-tail, Contains-append_cases, Contains-append_left, Contains-append_right, Contains-get_or, filter_map-append}
+use Rattle.std.proofs.lemmas.List.Elements.{All-contains, All-head, All-nil, All-push, All-tail}
+use Rattle.std.proofs.lemmas.List.Elements.{Contains-append_cases, Contains-append_left}
+use Rattle.std.proofs.lemmas.List.Elements.{Contains-append_right, Contains-get_or}
+use Rattle.std.proofs.lemmas.List.Elements.{filter_map-append}
 use Rattle.std.proofs.lemmas.Option.{slice_get_cases}
 use Rattle.esc_term.specs.declared.formula.Formula.{Formula}
 use Rattle.esc_term.specs.declared.formula.Formula.TheVariants.{Not}
@@ -14,8 +18,11 @@ use Rattle.esc_clause.specs.Refinement.{are_alike}
 use Rattle.esc_clause.specs.declared.decision.Decision.{Decision}
 use Rattle.esc_clause.specs.declared.occurrence.Occurrence.{Occurrence}
 use Rattle.esc_sharing.proofs.Lists.{All-each}
-use Rattle.esc_outcome.specs.Tree.{IsOccurrence, IsRefutedAt, IsTree, Placed, Side, formulas_at, path_among, path_behind, path_formulas, path_of, placed, said_by, with_split}
-use Rattle.esc_outcome.specs.TreeLaws.{DecidedStays, RefutedByMore, RefutedStays, RootCloses, SidesClose}
+use Rattle.esc_outcome.specs.Tree.{IsOccurrence, IsRefutedAt, IsTree, Placed, Side, formulas_at}
+use Rattle.esc_outcome.specs.Tree.{path_among, path_behind, path_formulas, path_of, placed, said_by}
+use Rattle.esc_outcome.specs.Tree.{with_split}
+use Rattle.esc_outcome.specs.TreeLaws.{DecidedStays, RefutedByMore, RefutedStays, RootCloses}
+use Rattle.esc_outcome.specs.TreeLaws.{SidesClose}
 use Rattle.esc_outcome.specs.declared.branch.Split.{Split}
 use Rattle.esc_outcome.proofs.Paths.{path_below, paths_stay, slice_get_append_left}
 
@@ -135,21 +142,23 @@ module _ (fs : List Formula) (splits : List Split) (k : ℕ) (split : Split) (tr
         if are_alike holds split.at.positive then g else Not g) o) []) there)
         ∙ sym (append_assoc fs (filter_map (said_by fs) above) _))
 
+    refuted_below : (holds positive : Bool) → split.at.positive ≡ positive
+        → IsRefutedAt fs splits (Some (k, holds))
+        → Refuted (formulas_at fs splits split.under
+        ++ ((if are_alike holds positive then f else Not f) ∷ []))
+    refuted_below holds positive sign refuted =
+        subst Refuted (formulas_below holds ∙ ap (λ b. formulas_at fs splits split.under
+        ++ ((if are_alike holds b then f else Not f) ∷ [])) sign) refuted
+
     close : (positive : Bool) → split.at.positive ≡ positive
         → IsRefutedAt fs splits (Some (k, true)) → IsRefutedAt fs splits (Some (k, false))
         → IsRefutedAt fs splits split.under
     close true sign first second =
-        split_refutes (formulas_at fs splits split.under) f
-        (subst Refuted (formulas_below true ∙ ap (λ b. formulas_at fs splits split.under
-        ++ ((if are_alike true b then f else Not f) ∷ [])) sign) first)
-        (subst Refuted (formulas_below false ∙ ap (λ b. formulas_at fs splits split.under
-        ++ ((if are_alike false b then f else Not f) ∷ [])) sign) second)
+        split_refutes (formulas_at fs splits split.under) f (refuted_below true true sign first)
+        (refuted_below false true sign second)
     close false sign first second =
-        split_refutes (formulas_at fs splits split.under) f
-        (subst Refuted (formulas_below false ∙ ap (λ b. formulas_at fs splits split.under
-        ++ ((if are_alike false b then f else Not f) ∷ [])) sign) second)
-        (subst Refuted (formulas_below true ∙ ap (λ b. formulas_at fs splits split.under
-        ++ ((if are_alike true b then f else Not f) ∷ [])) sign) first)
+        split_refutes (formulas_at fs splits split.under) f (refuted_below false false sign second)
+        (refuted_below true false sign first)
 
 pub sides_close : SidesClose
 sides_close fs splits k split tree is there first second = go (formula_at fs split.at) refl

@@ -1,9 +1,12 @@
 -- The facts that name a formula of the base are a legal list, and a branch begins with them.
-use Rattle.std.proofs.Common.{◌≡◌, ◌≢◌, ◌⊎◌, ℕ, ◌<◌, IsTrue, List, [], ◌∷◌, ◌++◌, Option, Some, None, length, map, get_or, append-nil, append_assoc, refl, sym, subst, ◌∙◌, inl, inr, lit<, arith}
+use Rattle.std.proofs.Common.{◌≡◌, ◌≢◌, ◌⊎◌, ℕ, ◌<◌, IsTrue, List, [], ◌∷◌, ◌++◌, Option, Some}
+use Rattle.std.proofs.Common.{None, length, map, get_or, append-nil, append_assoc, refl, sym, subst}
+use Rattle.std.proofs.Common.{◌∙◌, inl, inr, lit<, arith}
 use Rattle.std.specs.Prelude.{IsSome}
 use Rattle.std.specs.List.{All, AllPairs, cons_option, range_with_len}
 use Rattle.std.specs.Option.{option_map}
-use Rattle.std.proofs.lemmas.List.Elements.{All-append, All-contains, All-cons, All-nil, Contains-append_right}
+use Rattle.std.proofs.lemmas.List.Elements.{All-append, All-contains, All-cons, All-nil}
+use Rattle.std.proofs.lemmas.List.Elements.{Contains-append_right}
 use Rattle.std.proofs.lemmas.List.FromFn.{get_or-map-range_with_len, length-map-range_with_len}
 use Rattle.std.proofs.lemmas.List.Quantifiers.{all_pairs_push}
 use Rattle.std.proofs.lemmas.Option.{slice_get_cases}
@@ -16,7 +19,8 @@ use Rattle.esc_fact.specs.declared.fact.Fact.{Fact}
 use Rattle.esc_fact.specs.declared.fact.Fact.TheVariants as fact
 use Rattle.esc_outcome.specs.Grown.{AreMet, IsDoneIn, IsMet, IsPlace, IsShallowAmong, makers_of}
 use Rattle.esc_outcome.specs.GrownLaws.{EmptyIsGrown, FirstIsLegal, GrownByFirst, empty_branch}
-use Rattle.esc_outcome.specs.Tree.{AreDifferent, ComesInTurn, IsOccurrence, Placed, named_by, placed}
+use Rattle.esc_outcome.specs.Tree.{AreDifferent, ComesInTurn, IsOccurrence, Placed, named_by}
+use Rattle.esc_outcome.specs.Tree.{placed}
 use Rattle.esc_outcome.specs.declared.branch.Split.{Split}
 use Rattle.esc_outcome.proofs.Branches.{grown_fact, some_behind}
 

@@ -1,6 +1,8 @@
 -- Whole numbers that are small can be added and multiplied, so that the row of a gap of numerals
 -- can be made.
-use Rattle.std.proofs.Common.{◌≡◌, ℕ, ◌<◌, ◌/◌, ◌*◌, ◌^◌, ℤ, pos, neg_ℤ, ◌+ℤ◌, ◌*ℤ◌, Bool, true, false, cond, nat_lt, [], length, replicate, refl, sym, ap, subst, subst₂, ◌∙◌, lit<, arith}
+use Rattle.std.proofs.Common.{◌≡◌, ℕ, ◌<◌, ◌/◌, ◌*◌, ◌^◌, ℤ, pos, neg_ℤ, ◌+ℤ◌, ◌*ℤ◌, Bool, true}
+use Rattle.std.proofs.Common.{false, cond, nat_lt, [], length, replicate, refl, sym, ap, subst}
+use Rattle.std.proofs.Common.{subst₂, ◌∙◌, lit<, arith}
 use Rattle.std.specs.Prelude.{unsigned_abs}
 use Rattle.std.proofs.lemmas.Bool.{le-ltb}
 use Rattle.std.proofs.lemmas.Int.{ints}

@@ -1,6 +1,7 @@
 -- What the form of a term is made of: the term, or what stands in its sums, differences and
 -- products.
-use Rattle.std.proofs.Common.{◌≡◌, Bool, true, false, cond, nat_lt, List, [], ◌∷◌, map, length, sym, subst}
+use Rattle.std.proofs.Common.{◌≡◌, Bool, true, false, cond, nat_lt, List, [], ◌∷◌, map, length, sym}
+use Rattle.std.proofs.Common.{subst}
 use Rattle.std.specs.List.{All, fold}
 use Rattle.std.proofs.lemmas.List.Elements.{All-cons, All-head, All-nil, All-tail}
 use denote.Hole.Carrier.{roll}
@@ -14,11 +15,13 @@ use Rattle.esc_term.specs.declared.term.Term.TheFolds.{map-Term, ind-Term}
 use Rattle.esc_frac.specs.Rational.{whole, zero_ℚ, one_ℚ}
 use Rattle.esc_linear.specs.declared.form.Form.{Form}
 use Rattle.esc_linear.specs.declared.form.Part.{Part}
-use Rattle.esc_linear.specs.Forms.{constant_form, factor_of, form, opaque_form, part, plus, scaled_first, varying}
+use Rattle.esc_linear.specs.Forms.{constant_form, factor_of, form, opaque_form, part, plus}
+use Rattle.esc_linear.specs.Forms.{scaled_first, varying}
 use Rattle.esc_linear.proofs.AllLemmas.{all_of_pairs}
 use Rattle.esc_linear.proofs.FormLevels.{form-App, form-Num, form-Var}
 use Rattle.esc_linear.proofs.LinLaw.{AllParts, AllTerms-first, AllTerms-none}
-use Rattle.esc_linear.proofs.PartLemmas.{AllTerms, AllTerms-negative, AllTerms-with_parts, negative_part}
+use Rattle.esc_linear.proofs.PartLemmas.{AllTerms, AllTerms-negative, AllTerms-with_parts}
+use Rattle.esc_linear.proofs.PartLemmas.{negative_part}
 
 -- with a sum, a difference or a product, what it is made of
 pub record HasOperands (P : Term → Type 0) : Type 0 where

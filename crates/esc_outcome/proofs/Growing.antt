@@ -1,17 +1,22 @@
 -- Trees of splits that grow.
-use Rattle.std.proofs.Common.{◌≡◌, ◌≢◌, ℕ, ◌<◌, ◌≤◌, true, false, List, [], ◌∷◌, ◌++◌, Some, None, length, map, get_or, sym, ap, subst, ◌∙◌, inl, inr, arith}
+use Rattle.std.proofs.Common.{◌≡◌, ◌≢◌, ℕ, ◌<◌, ◌≤◌, true, false, List, [], ◌∷◌, ◌++◌, Some, None}
+use Rattle.std.proofs.Common.{length, map, get_or, sym, ap, subst, ◌∙◌, inl, inr, arith}
 use Rattle.std.specs.Prelude.{IsSome, slice_get}
 use Rattle.std.specs.List.{All, Contains}
 use Rattle.std.specs.Option.{option_map_or}
 use Rattle.std.proofs.lemmas.List.{get_or_push, length_push, map_push}
-use Rattle.std.proofs.lemmas.List.Elements.{All-contains, All-map, All-push, All-weaker, Contains-get_or}
+use Rattle.std.proofs.lemmas.List.Elements.{All-contains, All-map, All-push, All-weaker}
+use Rattle.std.proofs.lemmas.List.Elements.{Contains-get_or}
 use Rattle.std.proofs.lemmas.List.Quantifiers.{all_pairs_push}
-use Rattle.std.proofs.lemmas.Option.{get_or_from_slice_get, slice_get-get_or, slice_get_cases, slice_get_within}
+use Rattle.std.proofs.lemmas.Option.{get_or_from_slice_get, slice_get-get_or, slice_get_cases}
+use Rattle.std.proofs.lemmas.Option.{slice_get_within}
 use Rattle.esc_term.specs.declared.formula.Formula.{Formula}
 use Rattle.esc_clause.specs.Refinement.{is_same_place}
 use Rattle.esc_clause.specs.declared.decision.Decision.{Decision}
 use Rattle.esc_clause.specs.declared.occurrence.Occurrence.{Occurrence}
-use Rattle.esc_outcome.specs.Tree.{AreDifferent, ComesInTurn, IsFree, IsOccurrence, IsRefutedAt, IsSideAmong, IsTree, IsUndecidedAt, NamesOnce, Placed, Side, SplitTree, named_by, path_among, path_behind, path_of, placed}
+use Rattle.esc_outcome.specs.Tree.{AreDifferent, ComesInTurn, IsFree, IsOccurrence, IsRefutedAt}
+use Rattle.esc_outcome.specs.Tree.{IsSideAmong, IsTree, IsUndecidedAt, NamesOnce, Placed, Side}
+use Rattle.esc_outcome.specs.Tree.{SplitTree, named_by, path_among, path_behind, path_of, placed}
 use Rattle.esc_outcome.specs.TreeLaws.{NewSidesAreFree, TreeGrows, TreeStays}
 use Rattle.esc_outcome.specs.declared.branch.Split.{Split}
 use Rattle.esc_outcome.proofs.Decided.{formula_at-more, refuted_by_more, refuted_stays}
@@ -89,7 +94,8 @@ module _ (fs : List Formula) (splits : List Split) (split : Split)
       ]
 
   once : NamesOnce grown
-  once = subst (All (λ (p : Placed). AreDifferent (named_by p))) (sym (placed-append splits (split ∷ [])))
+  once = subst (All (λ (p : Placed). AreDifferent (named_by p)))
+      (sym (placed-append splits (split ∷ [])))
       (All-push (λ (p : Placed). AreDifferent (named_by p)) (placed splits) _ old.once
       (all_pairs_push (λ (a b : Occurrence). is_same_place a b ≡ false)
       (map (λ (d : Decision). d.at) (path_of splits split.under)) split.at

@@ -1,5 +1,6 @@
 -- A stop is a jam of the formulas that gave the arithmetic its terms.
-use Rattle.std.proofs.Common.{◌≡◌, ◌≢◌, ◌↔◌, ℕ, List, [], ◌∷◌, ◌++◌, Option, Some, None, length, take, drop, append_assoc, refl, sym, ap, subst, ◌∙◌, inl, inr, arith}
+use Rattle.std.proofs.Common.{◌≡◌, ◌≢◌, ◌↔◌, ℕ, List, [], ◌∷◌, ◌++◌, Option, Some, None, length}
+use Rattle.std.proofs.Common.{take, drop, append_assoc, refl, sym, ap, subst, ◌∙◌, inl, inr, arith}
 use Rattle.std.specs.List.{All, Contains, flat_map}
 use Rattle.std.proofs.lemmas.List.{get_or_append_left, length-append, take-append-drop}
 use Rattle.std.proofs.Math.Seq.{take-append_seam}
@@ -15,8 +16,10 @@ use Rattle.esc_tableau.specs.declared.answers.Step.{Step}
 use Rattle.esc_tableau.specs.declared.answers.Step.TheVariants.{Row, Ratio, Pivot}
 use Rattle.esc_tableau.specs.declared.listed.Rows.{Rows}
 use Rattle.esc_cover.specs.Assignment.{Assignment, Gap, NoneNegative, asked}
-use Rattle.esc_simplex.specs.Barred.{AreRowsAt, AreSensesAt, IsBarred, KeepsRows, KeptRunIsSpent, KeptStepJams, MayBeMade}
-use Rattle.esc_simplex.specs.Senses.{IsPointOf, Sense, StandsFor, gap_of, sense_fraction, term, term_at}
+use Rattle.esc_simplex.specs.Barred.{AreRowsAt, AreSensesAt, IsBarred, KeepsRows, KeptRunIsSpent}
+use Rattle.esc_simplex.specs.Barred.{KeptStepJams, MayBeMade}
+use Rattle.esc_simplex.specs.Senses.{IsPointOf, Sense, StandsFor, gap_of, sense_fraction, term}
+use Rattle.esc_simplex.specs.Senses.{term_at}
 use Rattle.esc_simplex.specs.View.{Allows, numbers_in, senses_in}
 use Rattle.esc_simplex.specs.declared.simplex.Simplex.{Simplex}
 use Rattle.esc_simplex.specs.declared.stop.Stop.{Stop}

@@ -1,5 +1,7 @@
 -- Rows of unknowns whose values are fixed have no column, and so no pivot.
-use Rattle.std.proofs.Common.{◌≡◌, ℕ, zero, suc, ◌<◌, pos, Bool, true, false, cond, nat_lt, List, Option, Some, None, length, get_or, refl, sym, ap, ap₂, subst, ◌∙◌, inl, inr, arith}
+use Rattle.std.proofs.Common.{◌≡◌, ℕ, zero, suc, ◌<◌, pos, Bool, true, false, cond, nat_lt, List}
+use Rattle.std.proofs.Common.{Option, Some, None, length, get_or, refl, sym, ap, ap₂, subst, ◌∙◌}
+use Rattle.std.proofs.Common.{inl, inr, arith}
 use Rattle.std.specs.List.{All}
 use Rattle.std.proofs.lemmas.Bool.{cases_lt, cond-false, le-ltb}
 use Rattle.std.proofs.lemmas.Int.{ints}
@@ -8,7 +10,8 @@ use Rattle.esc_term.specs.declared.term.Term.TheVariants.{Num}
 use Rattle.esc_frac.specs.Rational.{ℚ, zero_ℚ, one_ℚ}
 use Rattle.esc_frac.specs.Sign.{sign_of}
 use Rattle.esc_frac.proofs.WholeLaws.{whole_same}
-use Rattle.esc_tableau.specs.Rule.{entering, first, improving, is_positive, next, next_by_move, or_next, slope, way}
+use Rattle.esc_tableau.specs.Rule.{entering, first, improving, is_positive, next, next_by_move}
+use Rattle.esc_tableau.specs.Rule.{or_next, slope, way}
 use Rattle.esc_tableau.specs.Table.{Table, column, column_of, nobody, sample, size}
 use Rattle.esc_tableau.specs.declared.answers.Peak.TheVariants.{NotPositive, Positive}
 use Rattle.esc_tableau.specs.declared.answers.Step.{Step}

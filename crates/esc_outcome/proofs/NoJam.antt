@@ -1,5 +1,6 @@
 -- Formulas without arithmetic have no jam.
-use Rattle.std.proofs.Common.{◌≡◌, ℕ, ℤ, true, List, [], ◌∷◌, Option, Some, None, refl, sym, ap, subst, subst₂, ◌∙◌}
+use Rattle.std.proofs.Common.{◌≡◌, ℕ, ℤ, true, List, [], ◌∷◌, Option, Some, None, refl, sym, ap}
+use Rattle.std.proofs.Common.{subst, subst₂, ◌∙◌}
 use Rattle.std.specs.List.{All, AllZip, Contains, list_all}
 use Rattle.std.proofs.lemmas.List.Elements.{All-nil, All-weaker}
 use Rattle.esc_term.specs.declared.term.Term.{Term}

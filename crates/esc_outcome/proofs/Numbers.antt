@@ -13,16 +13,19 @@ use Rattle.esc_term.specs.Formula.{terms_of}
 use Rattle.esc_term.specs.Interpretation.{domain_of}
 use Rattle.esc_term.specs.Term.{is_ground, truth_term}
 use Rattle.esc_term.proofs.GroundTerms.{is_ground-App}
-use Rattle.esc_term.proofs.Members.{Contains-cases, Contains-flat_map, Contains-here, Contains-in_flat_map, Contains-later}
+use Rattle.esc_term.proofs.Members.{Contains-cases, Contains-flat_map, Contains-here}
+use Rattle.esc_term.proofs.Members.{Contains-in_flat_map, Contains-later}
 use Rattle.esc_term.proofs.Wholes.{domain-whole}
 use Rattle.esc_linear.specs.Forms.{form}
 use Rattle.esc_linear.specs.declared.form.Part.{Part}
 use Rattle.esc_linear.proofs.LinLaw.{AllParts}
-use Rattle.esc_cover.specs.Arithmetic.{is_arithmetic, is_arithmetic_in, is_number, operands, operands_form, order_sides, order_sides_form}
+use Rattle.esc_cover.specs.Arithmetic.{is_arithmetic, is_arithmetic_in, is_number, operands}
+use Rattle.esc_cover.specs.Arithmetic.{operands_form, order_sides, order_sides_form}
 use Rattle.esc_cover.specs.Atoms.{atoms_of}
 use Rattle.esc_cover.specs.Classes.{active_terms, has}
 use Rattle.esc_cover.proofs.ActiveTerms.{active, of_active}
-use Rattle.esc_cover.proofs.TestLemmas.{all_at, has-at, has-found, kept, of_kept, or_cases, or_left, or_right}
+use Rattle.esc_cover.proofs.TestLemmas.{all_at, has-at, has-found, kept, of_kept, or_cases, or_left}
+use Rattle.esc_cover.proofs.TestLemmas.{or_right}
 use Rattle.esc_simplex.specs.Senses.{Sense, gap_of, term}
 use Rattle.esc_sharing.specs.Numbers.{MayStandFor, with_parts}
 use Rattle.esc_sharing.proofs.Lists.{All-each}

@@ -17,7 +17,8 @@ use Rattle.esc_frac.specs.Rational.{ℚ, whole}
 use Rattle.esc_linear.specs.Laws.{form_value}
 use Rattle.esc_linear.proofs.FormLevels.{form-Num}
 use Rattle.esc_linear.proofs.ValueLaw.{value-constant}
-use Rattle.esc_cover.specs.Arithmetic.{is_arithmetic, is_arithmetic_in, is_number, is_number_form, operands, operands_form, order_sides, order_sides_form}
+use Rattle.esc_cover.specs.Arithmetic.{is_arithmetic, is_arithmetic_in, is_number, is_number_form}
+use Rattle.esc_cover.specs.Arithmetic.{operands, operands_form, order_sides, order_sides_form}
 use Rattle.esc_cover.specs.Assignment.{Assignment}
 use Rattle.esc_cover.specs.Atoms.{atoms_of}
 use Rattle.esc_cover.specs.Classes.{active_terms, has}

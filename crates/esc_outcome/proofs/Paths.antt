@@ -1,13 +1,17 @@
 -- The paths of a tree of splits.
-use Rattle.std.proofs.Common.{◌≡◌, ℕ, ◌<◌, ◌+◌, suc, List, [], ◌∷◌, ◌++◌, Some, None, length, take, drop, refl, sym, ap, subst, zero-add, ◌∙◌, inl, inr, arith}
+use Rattle.std.proofs.Common.{◌≡◌, ℕ, ◌<◌, ◌+◌, suc, List, [], ◌∷◌, ◌++◌, Some, None, length, take}
+use Rattle.std.proofs.Common.{drop, refl, sym, ap, subst, zero-add, ◌∙◌, inl, inr, arith}
 use Rattle.std.specs.Prelude.{slice_get}
 use Rattle.std.specs.List.{fold}
 use Rattle.std.specs.Option.{option_map_or}
 use Rattle.std.proofs.Math.Seq.{drop-cons}
-use Rattle.std.proofs.lemmas.List.{get_or_append_left, get_or_push, length-append, length-take-le, length_push, take-append-drop}
+use Rattle.std.proofs.lemmas.List.{get_or_append_left, get_or_push, length-append, length-take-le}
+use Rattle.std.proofs.lemmas.List.{length_push, take-append-drop}
 use Rattle.std.proofs.lemmas.List.Sums.{fold-append}
-use Rattle.std.proofs.lemmas.Option.{get_or_from_slice_get, slice_get-get_or, slice_get_cases, slice_get_within}
-use Rattle.esc_outcome.specs.Tree.{IsSideAmong, IsTree, Placed, path_among, path_behind, path_of, placed, with_split}
+use Rattle.std.proofs.lemmas.Option.{get_or_from_slice_get, slice_get-get_or, slice_get_cases}
+use Rattle.std.proofs.lemmas.Option.{slice_get_within}
+use Rattle.esc_outcome.specs.Tree.{IsSideAmong, IsTree, Placed, path_among, path_behind, path_of}
+use Rattle.esc_outcome.specs.Tree.{placed, with_split}
 use Rattle.esc_outcome.specs.TreeLaws.{PathBelow, PathsStay}
 use Rattle.esc_outcome.specs.declared.branch.Split.{Split}
 
@@ -24,7 +28,8 @@ slice_get_append_left xs ys k below =
       | inr past ↦ absurd (omega (arith, below, past.0))
     ]
 
-pub slice_get_push : {X : Type 0} (xs : List X) (y : X) → slice_get (xs ++ y ∷ []) (length xs) ≡ Some y
+pub slice_get_push : {X : Type 0} (xs : List X) (y : X)
+    → slice_get (xs ++ y ∷ []) (length xs) ≡ Some y
 slice_get_push xs y =
     slice_get-get_or (xs ++ y ∷ []) (length xs) y (omega (arith, length_push xs y))
     ∙ ap Some (get_or_push xs y y (length xs) refl)
@@ -82,7 +87,8 @@ placed_keeps splits more k below =
 pub paths_stay : PathsStay
 paths_stay splits more None among = refl
 paths_stay splits more (Some side) among =
-    ap (λ found. option_map_or (path_behind side.1) found []) (placed_keeps splits more side.0 among)
+    ap (λ found. option_map_or (path_behind side.1) found [])
+    (placed_keeps splits more side.0 among)
 
 -- each split is placed by those before it
 placed_at : (splits : List Split) (k : ℕ) (split : Split) → slice_get splits k ≡ Some split

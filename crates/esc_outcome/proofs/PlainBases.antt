@@ -1,11 +1,16 @@
 -- Bases from which nothing is drawn.
-use Rattle.std.proofs.Common.{◌≡◌, ℕ, ◌<◌, ◌^◌, false, true, List, [], ◌∷◌, ◌++◌, Option, Some, None, length, map, get_or, append-nil, append_assoc, refl, sym, ap, ap₂, subst, ◌∙◌, inl, inr, arith}
+use Rattle.std.proofs.Common.{◌≡◌, ℕ, ◌<◌, ◌^◌, false, true, List, [], ◌∷◌, ◌++◌, Option, Some}
+use Rattle.std.proofs.Common.{None, length, map, get_or, append-nil, append_assoc, refl, sym, ap}
+use Rattle.std.proofs.Common.{ap₂, subst, ◌∙◌, inl, inr, arith}
 use Rattle.std.specs.Prelude.{IsSome, slice_get}
-use Rattle.std.specs.List.{All, Contains, cons_option, filter_map, flat_map, list_all, range_with_len}
+use Rattle.std.specs.List.{All, Contains, cons_option, filter_map, flat_map, list_all}
+use Rattle.std.specs.List.{range_with_len}
 use Rattle.std.specs.Option.{option_map}
 use Rattle.std.proofs.Math.Seq.{get_or-append_seam}
 use Rattle.std.proofs.lemmas.List.{get_or_append_left, length-append, length_push}
-use Rattle.std.proofs.lemmas.List.Elements.{All-contains, All-contains_itself, All-weaker, Contains-append_left, Contains-append_right, filter_map-append}
+use Rattle.std.proofs.lemmas.List.Elements.{All-contains, All-contains_itself, All-weaker}
+use Rattle.std.proofs.lemmas.List.Elements.{Contains-append_left, Contains-append_right}
+use Rattle.std.proofs.lemmas.List.Elements.{filter_map-append}
 use Rattle.std.proofs.lemmas.Option.{slice_get_cases}
 use Rattle.esc_term.specs.declared.term.Term.{Term}
 use Rattle.esc_term.specs.declared.formula.Formula.{Formula}
@@ -20,7 +25,8 @@ use Rattle.esc_fact.specs.declared.base.Base.{Base}
 use Rattle.esc_fact.specs.declared.fact.Fact.{Fact}
 use Rattle.esc_fact.specs.declared.fact.Fact.TheVariants as fact
 use Rattle.esc_outcome.specs.Causes.{IsStuck}
-use Rattle.esc_outcome.specs.PlainLaws.{IsPlain, IsPlainAndFree, PlainHasFirstFacts, PlainIsNotRefuted, PlainRunsOutOfSplits}
+use Rattle.esc_outcome.specs.PlainLaws.{IsPlain, IsPlainAndFree, PlainHasFirstFacts}
+use Rattle.esc_outcome.specs.PlainLaws.{PlainIsNotRefuted, PlainRunsOutOfSplits}
 use Rattle.esc_outcome.specs.TreeLaws.{occurrences_in}
 use Rattle.esc_outcome.specs.declared.branch.Branch.{Branch}
 use Rattle.esc_outcome.specs.declared.branch.Cause.TheVariants as cause

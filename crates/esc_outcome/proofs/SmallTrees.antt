@@ -1,6 +1,8 @@
 -- A tree of splits that names each occurrence at most once on a path is small: the ways to its
 -- splits, read as numbers in base two behind a leading one, differ and are below a power of two.
-use Rattle.std.proofs.Common.{◌≡◌, ◌≢◌, ℕ, zero, suc, ◌<◌, ◌≤◌, ◌+◌, ◌^◌, Bool, true, false, List, [], ◌∷◌, ◌++◌, Some, None, length, map, get_or, refl, sym, ap, ap₂, subst, ◌∙◌, inl, inr, lit<, lit≤, arith}
+use Rattle.std.proofs.Common.{◌≡◌, ◌≢◌, ℕ, zero, suc, ◌<◌, ◌≤◌, ◌+◌, ◌^◌, Bool, true, false, List}
+use Rattle.std.proofs.Common.{[], ◌∷◌, ◌++◌, Some, None, length, map, get_or, refl, sym, ap, ap₂}
+use Rattle.std.proofs.Common.{subst, ◌∙◌, inl, inr, lit<, lit≤, arith}
 use Rattle.std.specs.Prelude.{slice_get}
 use Rattle.std.specs.List.{All, AllPairs, fold}
 use Rattle.std.proofs.Math.Nat.{one-le-pow, pow-le-pow_right, pow-suc}
@@ -9,10 +11,12 @@ use Rattle.std.proofs.lemmas.List.{length-map, length_push}
 use Rattle.std.proofs.lemmas.List.Elements.{All-cons, All-get_or, All-map, All-push}
 use Rattle.std.proofs.lemmas.List.Kept.{AllPairs-cons}
 use Rattle.std.proofs.lemmas.List.Sums.{fold_push}
-use Rattle.std.proofs.lemmas.Option.{get_or_from_slice_get, slice_get-get_or, slice_get_cases, slice_get_within}
+use Rattle.std.proofs.lemmas.Option.{get_or_from_slice_get, slice_get-get_or, slice_get_cases}
+use Rattle.std.proofs.lemmas.Option.{slice_get_within}
 use Rattle.esc_term.specs.declared.formula.Formula.{Formula}
 use Rattle.esc_clause.specs.declared.decision.Decision.{Decision}
-use Rattle.esc_outcome.specs.Tree.{AreDifferent, IsOccurrence, IsSideAmong, IsTree, NamesOnce, Placed, Side, named_by, path_of, placed}
+use Rattle.esc_outcome.specs.Tree.{AreDifferent, IsOccurrence, IsSideAmong, IsTree, NamesOnce}
+use Rattle.esc_outcome.specs.Tree.{Placed, Side, named_by, path_of, placed}
 use Rattle.esc_outcome.specs.TreeLaws.{TreeIsSmall, occurrences_in}
 use Rattle.esc_outcome.specs.declared.branch.Split.{Split}
 use Rattle.esc_outcome.proofs.Counting.{AllPairs-map, different_few, few_below}
@@ -45,7 +49,8 @@ fold_below [] n j below = subst (λ m. n < 2 ^ m) (omega arith) below
 fold_below (d ∷ ds) n j below =
     let twice = pow-suc 2 j in
     let next : step n d < 2 ^ suc j = omega (arith, twice, step_below n (2 ^ j) d below) in
-    subst (λ m. fold step (step n d) ds < 2 ^ m) (omega arith) (fold_below ds (step n d) (suc j) next)
+    subst (λ m. fold step (step n d) ds < 2 ^ m) (omega arith)
+    (fold_below ds (step n d) (suc j) next)
 
 code_below : (ds : List Decision) → code ds < 2 ^ (1 + length ds)
 unfolding code

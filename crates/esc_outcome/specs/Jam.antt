@@ -1,6 +1,6 @@
 -- When a stop shows why the arithmetic of a branch goes no further: what is kept of it is made of
--- the formulas of the branch, its rows say what the literals and the told pairs say, and on them the
--- step or the run is as the stop says.
+-- the formulas of the branch, its rows say what the literals and the told pairs say, and on them
+-- the step or the run is as the stop says.
 use Rattle.std.specs.Prelude.{◌≡◌, ◌↔◌, ℕ, List, take}
 use Rattle.std.specs.List.{All, Contains, flat_map}
 use Rattle.esc_term.specs.declared.term.Term.{Term}

@@ -25,8 +25,8 @@ pub fn jam_laws()
 
 /// What is decided on the paths of a tree of splits, and refuted there, stays so when splits and
 /// formulas come behind the others; where both sides of a split are refuted, so is where it stands.
-/// A split may come where none stands and its occurrence is not decided, and a tree has fewer splits
-/// than two to the number of occurrences.
+/// A split may come where none stands and its occurrence is not decided, and a tree has fewer
+/// splits than two to the number of occurrences.
 pub fn tree_laws()
     ensures below { PathBelow }
     ensures paths { PathsStay }
