@@ -3,7 +3,7 @@ use Rattle.std.proofs.Common.{◌≡◌, ℕ, ◌<◌, ◌^◌, false, true, Lis
 use Rattle.std.proofs.Common.{None, length, map, get_or, append-nil, append_assoc, refl, sym, ap}
 use Rattle.std.proofs.Common.{ap₂, subst, ◌∙◌, inl, inr, arith}
 use Rattle.std.specs.Prelude.{IsSome, slice_get}
-use Rattle.std.specs.List.{All, Contains, cons_option, filter_map, flat_map, list_all}
+use Rattle.std.specs.List.{All, AllZip, Contains, cons_option, filter_map, flat_map, list_all}
 use Rattle.std.specs.List.{range_with_len}
 use Rattle.std.specs.Option.{option_map}
 use Rattle.std.proofs.Math.Seq.{get_or-append_seam}
@@ -15,6 +15,7 @@ use Rattle.std.proofs.lemmas.Option.{slice_get_cases}
 use Rattle.esc_term.specs.declared.term.Term.{Term}
 use Rattle.esc_term.specs.declared.formula.Formula.{Formula}
 use Rattle.esc_term.specs.Formula.{terms_of}
+use Rattle.esc_term.specs.Refuted.{Refuted}
 use Rattle.esc_term.proofs.Members.{Contains-here}
 use Rattle.esc_cover.specs.Laws.{is_free_of_arithmetic}
 use Rattle.esc_cover.proofs.TestLemmas.{all_at, all_from}
@@ -27,6 +28,7 @@ use Rattle.esc_fact.specs.declared.fact.Fact.TheVariants as fact
 use Rattle.esc_outcome.specs.Causes.{IsStuck}
 use Rattle.esc_outcome.specs.PlainLaws.{IsPlain, IsPlainAndFree, PlainHasFirstFacts}
 use Rattle.esc_outcome.specs.PlainLaws.{PlainIsNotRefuted, PlainRunsOutOfSplits}
+use Rattle.esc_outcome.specs.PlainLaws.{PlainValidIsRefuted}
 use Rattle.esc_outcome.specs.TreeLaws.{occurrences_in}
 use Rattle.esc_outcome.specs.declared.branch.Branch.{Branch}
 use Rattle.esc_outcome.specs.declared.branch.Cause.TheVariants as cause
@@ -142,6 +144,22 @@ plain_has_first_facts base facts plain legal = go legal.more legal.begins
     go (f ∷ rest) e = absurd (no_more base plain facts legal f rest e)
 
 -- ---- what is told of plain bases
+
+formulas_listed : (base : Base) (log : List Fact) (formulas : List Formula)
+    → AllZip (λ fact f. formula_of base fact ≡ Some f) log formulas
+    → formulas_of base log ≡ formulas
+formulas_listed base [] [] zip = refl
+formulas_listed base [] (f ∷ fs) zip = absurd zip
+formulas_listed base (x ∷ log) [] zip = absurd zip
+formulas_listed base (x ∷ log) (f ∷ fs) zip =
+    ap₂ cons_option zip.0 (formulas_listed base log fs zip.1)
+
+pub plain_valid_is_refuted : PlainValidIsRefuted
+plain_valid_is_refuted base log formulas plain valid =
+    subst Refuted
+    (sym (formulas_listed base log formulas valid.formulas_are)
+    ∙ (ap (formulas_of base) (plain_has_first_facts base log plain valid.legal)
+    ∙ formulas_first base)) valid.refuted
 
 pub plain_is_not_refuted : PlainIsNotRefuted
 plain_is_not_refuted base limits found is invalid =

@@ -2,6 +2,7 @@
 use Rattle.std.specs.Prelude.{◌≡◌, ◌<◌, ◌^◌, IsTrue, List, []}
 use Rattle.std.specs.List.{Contains, flat_map, list_all}
 use Rattle.esc_term.specs.declared.term.Term.{Term}
+use Rattle.esc_term.specs.declared.formula.Formula.{Formula}
 use Rattle.esc_term.specs.Formula.{terms_of}
 use Rattle.esc_term.specs.Refuted.{Refuted}
 use Rattle.esc_cover.specs.Laws.{is_free_of_arithmetic}
@@ -11,7 +12,7 @@ use Rattle.esc_fact.specs.Legal.{IsLegal, first_facts}
 use Rattle.esc_fact.specs.declared.base.Base.{Base}
 use Rattle.esc_fact.specs.declared.fact.Fact.{Fact}
 use Rattle.esc_outcome.specs.Causes.{IsCause}
-use Rattle.esc_outcome.specs.Found.{IsInvalid}
+use Rattle.esc_outcome.specs.Found.{IsInvalid, IsValid}
 use Rattle.esc_outcome.specs.FreeLaws.{NumeralsAreSmall}
 use Rattle.esc_outcome.specs.TreeLaws.{occurrences_in}
 use Rattle.esc_outcome.specs.declared.branch.Cause.{Cause}
@@ -35,7 +36,12 @@ abbrev pub PlainHasFirstFacts : Type 0
 PlainHasFirstFacts = (base : Base) (facts : List Fact) → IsPlain base → IsLegal base facts
     → facts ≡ first_facts base
 
--- a counterexample to such a base shows that it is not refuted
+-- a valid log refutes the base
+abbrev pub PlainValidIsRefuted : Type 0
+PlainValidIsRefuted = (base : Base) (log : List Fact) (formulas : List Formula) → IsPlain base
+    → IsValid base log formulas → Refuted (formulas_in base)
+
+-- a counterexample to a base without arithmetic shows that it is not refuted
 abbrev pub PlainIsNotRefuted : Type 0
 PlainIsNotRefuted = (base : Base) (limits : Limits) (found : Counterexample)
     → IsPlainAndFree base → IsInvalid base limits found → Refuted (formulas_in base) → ⊥

@@ -7,7 +7,7 @@ ghost use Rattle.esc_outcome.specs.GrownLaws.{GrownByFirst, GrownBySplit, GrownE
 ghost use Rattle.esc_outcome.specs.GrownLaws.{SplitsRunOutEarly};
 ghost use Rattle.esc_outcome.specs.JamLaws.{GivenAfterCall, GivenByMore, StopIsJam, ToldFollows};
 ghost use Rattle.esc_outcome.specs.PlainLaws.{PlainHasFirstFacts, PlainIsNotRefuted};
-ghost use Rattle.esc_outcome.specs.PlainLaws.{PlainRunsOutOfSplits};
+ghost use Rattle.esc_outcome.specs.PlainLaws.{PlainRunsOutOfSplits, PlainValidIsRefuted};
 ghost use Rattle.esc_outcome.specs.TreeLaws.{DecidedStays, NewSidesAreFree, PathBelow, PathsStay};
 ghost use Rattle.esc_outcome.specs.TreeLaws.{RefutedByMore, RefutedStays, RootCloses, SidesClose};
 ghost use Rattle.esc_outcome.specs.TreeLaws.{TreeGrows, TreeIsSmall, TreeStays};
@@ -59,11 +59,12 @@ pub fn found_laws()
     ensures not_refuted { InvalidIsNotRefuted }
 {}
 
-/// From a base without quantified formulas and maps with new values nothing is drawn. Where it has
-/// no arithmetic either, a counterexample to it shows that it is not refuted, and a search over it
-/// stops only where fewer splits are allowed than a tree can have.
+/// From a base without quantified formulas and maps with new values nothing is drawn, so that a
+/// valid log refutes it. Where it has no arithmetic either, a counterexample to it shows that it is
+/// not refuted, and a search over it stops only where fewer splits are allowed than a tree can have.
 pub fn plain_laws()
     ensures first { PlainHasFirstFacts }
+    ensures valid { PlainValidIsRefuted }
     ensures not_refuted { PlainIsNotRefuted }
     ensures splits { PlainRunsOutOfSplits }
 {}
