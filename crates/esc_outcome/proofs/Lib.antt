@@ -11,9 +11,9 @@ pub mod Growing
 pub mod Jamming
 pub mod NoColumns
 pub mod NoJam
-pub mod NotRefuted
 pub mod Numbers
 pub mod Numerals
 pub mod Paths
 pub mod PlainBases
 pub mod SmallTrees
+pub mod Verdicts

@@ -38,7 +38,7 @@ use Rattle.esc_outcome.proofs.Branches.{splits_run_out_early}
 use Rattle.esc_outcome.proofs.Decided.{not_none}
 use Rattle.esc_outcome.proofs.FirstFacts.{given_at, givens, many}
 use Rattle.esc_outcome.proofs.NoJam.{free_has_no_jam}
-use Rattle.esc_outcome.proofs.NotRefuted.{invalid_is_not_refuted}
+use Rattle.esc_outcome.proofs.Verdicts.{invalid_is_not_refuted}
 use Rattle.esc_outcome.proofs.Numbers.{active-among}
 use Rattle.esc_outcome.proofs.Paths.{slice_get_append_left, slice_get_push}
 

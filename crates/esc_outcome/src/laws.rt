@@ -1,6 +1,6 @@
 //! What holds of what a search comes to. The functions state it, and do nothing.
 
-ghost use Rattle.esc_outcome.specs.FoundLaws.{InvalidIsNotRefuted};
+ghost use Rattle.esc_outcome.specs.FoundLaws.{InvalidIsNotRefuted, RefutedIsValid};
 ghost use Rattle.esc_outcome.specs.FreeLaws.{FreeHasNoJam};
 ghost use Rattle.esc_outcome.specs.GrownLaws.{EmptyIsGrown, FirstIsLegal, GrownByFact};
 ghost use Rattle.esc_outcome.specs.GrownLaws.{GrownByFirst, GrownBySplit, GrownElsewhere};
@@ -54,8 +54,10 @@ pub fn branch_laws()
     ensures splits { SplitsRunOutEarly }
 {}
 
-/// A base to which there is a counterexample is not refuted, where no fact has arithmetic.
+/// A legal log whose formulas are refuted shows its goal valid. A base to which there is a
+/// counterexample is not refuted, where no fact has arithmetic.
 pub fn found_laws()
+    ensures valid { RefutedIsValid }
     ensures not_refuted { InvalidIsNotRefuted }
 {}
 

@@ -1,9 +1,11 @@
--- A base to which there is a counterexample is not refuted.
+-- What shows a goal valid, and what shows that its base is not refuted.
 use Rattle.std.proofs.Common.{◌≡◌, ◌<◌, List, [], ◌∷◌, ◌++◌, Option, Some, None, length, get_or}
 use Rattle.std.proofs.Common.{refl, sym, ap, subst, ◌∙◌, inl, inr, arith}
-use Rattle.std.specs.List.{All, Contains, cons_option, filter_map}
+use Rattle.std.specs.Prelude.{IsSome}
+use Rattle.std.specs.List.{All, AllZip, Contains, cons_option, filter_map}
 use Rattle.std.specs.Option.{option_map}
-use Rattle.std.proofs.lemmas.List.Elements.{All-append, All-cons, All-nil, All-weaker}
+use Rattle.std.proofs.lemmas.List.Elements.{All-append, All-cons, All-head, All-nil}
+use Rattle.std.proofs.lemmas.List.Elements.{All-tail, All-weaker}
 use Rattle.std.proofs.lemmas.List.Elements.{Contains-append_left, Contains-append_right}
 use Rattle.std.proofs.lemmas.List.Elements.{filter_map-append}
 use Rattle.std.proofs.lemmas.Option.{slice_get-get_or}
@@ -12,13 +14,14 @@ use Rattle.esc_term.proofs.Members.{Contains-cases, Contains-here, Contains-late
 use Rattle.esc_term.proofs.Refutations.{among_more}
 use Rattle.esc_cover.proofs.NotRefuted.{not_refuted}
 use Rattle.esc_fact.specs.Base.{formulas_in}
-use Rattle.esc_fact.specs.Fact.{formula_of, formulas_of}
+use Rattle.esc_fact.specs.Fact.{IsFact, formula_of, formulas_of}
 use Rattle.esc_fact.specs.Legal.{IsLegal, first_facts}
 use Rattle.esc_fact.specs.declared.base.Base.{Base}
 use Rattle.esc_fact.specs.declared.fact.Fact.{Fact}
 use Rattle.esc_fact.specs.declared.fact.Fact.TheVariants as fact
 use Rattle.esc_outcome.specs.Found.{members_of, values_of}
-use Rattle.esc_outcome.specs.FoundLaws.{InvalidIsNotRefuted}
+use Rattle.esc_outcome.specs.FoundLaws.{InvalidIsNotRefuted, RefutedIsValid}
+use Rattle.esc_outcome.proofs.Decided.{not_none}
 use Rattle.esc_outcome.proofs.FirstFacts.{given_at, givens, many}
 
 Contains-filter_map : {X Y : Type 0} (h : X → Option Y) (xs : List X) (x : X) (y : Y)
@@ -82,3 +85,29 @@ invalid_is_not_refuted base limits found is free refuted =
     (formulas_of base found.facts) free is.counterexample
     (among_more (formulas_in base) (formulas_of base found.facts)
     (base_in_facts base found.facts is.within.legal) refuted)
+
+-- ---- valid goals
+
+-- facts that name formulas stand beside them
+listed : (base : Base) (log : List Fact) → All (IsFact base) log
+    → AllZip (λ fact f. formula_of base fact ≡ Some f) log (formulas_of base log)
+listed base [] all = tt
+listed base (x ∷ log) all =
+    go (formula_of base x) refl (All-head (IsFact base) x log all).named
+    (listed base log (All-tail (IsFact base) x log all))
+  where
+    go : (o : Option Formula) → formula_of base x ≡ o → IsSome (formula_of base x)
+        → AllZip (λ fact f. formula_of base fact ≡ Some f) log (formulas_of base log)
+        → AllZip (λ fact f. formula_of base fact ≡ Some f) (x ∷ log)
+        (cons_option (formula_of base x) (formulas_of base log))
+    go None e some rest = absurd (not_none (formula_of base x) e some)
+    go (Some f) e some rest =
+        subst (λ o. AllZip (λ fact g. formula_of base fact ≡ Some g) (x ∷ log)
+        (cons_option o (formulas_of base log))) (sym e) (e, rest)
+
+pub refuted_is_valid : RefutedIsValid
+refuted_is_valid base log legal refuted = record {
+  legal = legal;
+  formulas_are = listed base log legal.are_facts;
+  refuted = refuted;
+}
