@@ -1,0 +1,12 @@
+pub mod Causes
+pub mod Found
+pub mod FoundLaws
+pub mod FreeLaws
+pub mod Grown
+pub mod GrownLaws
+pub mod Jam
+pub mod JamLaws
+pub mod Labels
+pub mod PlainLaws
+pub mod Tree
+pub mod TreeLaws

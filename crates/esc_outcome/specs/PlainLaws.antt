@@ -1,0 +1,52 @@
+-- Bases from which nothing is drawn: what is told of their goals is sharp.
+use Rattle.std.specs.Prelude.{◌≡◌, ◌<◌, ◌^◌, IsTrue, List, []}
+use Rattle.std.specs.List.{Contains, flat_map, list_all}
+use Rattle.esc_term.specs.declared.term.Term.{Term}
+use Rattle.esc_term.specs.declared.formula.Formula.{Formula}
+use Rattle.esc_term.specs.Formula.{terms_of}
+use Rattle.esc_term.specs.Refuted.{Refuted}
+use Rattle.esc_cover.specs.Laws.{is_free_of_arithmetic}
+use Rattle.esc_fact.specs.Base.{formulas_in, quantified_in}
+use Rattle.esc_fact.specs.Fact.{store}
+use Rattle.esc_fact.specs.Legal.{IsLegal, first_facts}
+use Rattle.esc_fact.specs.declared.base.Base.{Base}
+use Rattle.esc_fact.specs.declared.fact.Fact.{Fact}
+use Rattle.esc_outcome.specs.Causes.{IsCause}
+use Rattle.esc_outcome.specs.Found.{IsInvalid, IsValid}
+use Rattle.esc_outcome.specs.FreeLaws.{NumeralsAreSmall}
+use Rattle.esc_outcome.specs.TreeLaws.{occurrences_in}
+use Rattle.esc_outcome.specs.declared.branch.Cause.{Cause}
+use Rattle.esc_outcome.specs.declared.counterexample.Counterexample.{Counterexample}
+use Rattle.esc_outcome.specs.declared.limits.Limits.{Limits}
+
+-- no quantified formula, and no map with a new value
+pub record IsPlain (base : Base) : Type 0 where
+  pub unquantified : quantified_in base ≡ []
+  pub no_stores : (m i x : Term)
+      → Contains (flat_map terms_of (formulas_in base)) (store m i x) → ⊥
+
+-- nor arithmetic but small numerals
+pub record IsPlainAndFree (base : Base) : Type 0 where
+  pub plain : IsPlain base
+  pub free : IsTrue (list_all is_free_of_arithmetic (formulas_in base))
+  pub numerals : NumeralsAreSmall (formulas_in base)
+
+-- its only facts are the formulas of the base
+abbrev pub PlainHasFirstFacts : Type 0
+PlainHasFirstFacts = (base : Base) (facts : List Fact) → IsPlain base → IsLegal base facts
+    → facts ≡ first_facts base
+
+-- a valid log refutes the base
+abbrev pub PlainValidIsRefuted : Type 0
+PlainValidIsRefuted = (base : Base) (log : List Fact) (formulas : List Formula) → IsPlain base
+    → IsValid base log formulas → Refuted (formulas_in base)
+
+-- a counterexample to a base without arithmetic shows that it is not refuted
+abbrev pub PlainIsNotRefuted : Type 0
+PlainIsNotRefuted = (base : Base) (limits : Limits) (found : Counterexample)
+    → IsPlainAndFree base → IsInvalid base limits found → Refuted (formulas_in base) → ⊥
+
+-- a search over such a base stops only where fewer splits are allowed than a tree can have
+abbrev pub PlainRunsOutOfSplits : Type 0
+PlainRunsOutOfSplits = (base : Base) (limits : Limits) (cause : Cause) → IsPlainAndFree base
+    → IsCause base limits cause → limits.splits < 2 ^ occurrences_in (formulas_in base)
