@@ -20,6 +20,7 @@ pub mod ModelTest
 pub mod ModelValues
 pub mod NoModel
 pub mod Restricting
+pub mod SaidInModels
 pub mod Settling
 pub mod SharingNotes
 pub mod Starting
