@@ -1,6 +1,8 @@
 pub mod AddedNumber
+pub mod AdmittedSuits
 pub mod Alike
 pub mod AskedOrders
+pub mod BesideQuantified
 pub mod BoundNodes
 pub mod ClassTests
 pub mod Consistent

@@ -1,6 +1,6 @@
 -- What literals and their least classes say is so in each model of the literals, whichever terms
 -- are arithmetic: to have one value in the model is a test that obeys congruence and arithmetic.
-use Rattle.std.proofs.Common.{◌≡◌, ℤ, Bool, true, false, not, List, refl, ap, sym, ◌∙◌}
+use Rattle.std.proofs.Common.{◌≡◌, Bool, true, false, not, List, ap, sym, ◌∙◌}
 use Rattle.std.specs.List.{All, Contains}
 use Rattle.std.proofs.lemmas.List.Elements.{All-contains}
 use Rattle.esc_term.specs.declared.term.Term.{Term}

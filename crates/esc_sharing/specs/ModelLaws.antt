@@ -1,5 +1,5 @@
 -- What holds of models, classes and assignments where terms are arithmetic.
-use Rattle.std.specs.Prelude.{◌≡◌, ◌↔◌, Bool, true, false, List}
+use Rattle.std.specs.Prelude.{◌↔◌, true, false, List}
 use Rattle.std.specs.List.{Contains}
 use Rattle.esc_term.specs.declared.term.Term.{Term}
 use Rattle.esc_term.specs.declared.formula.Formula.{Formula}
