@@ -1,0 +1,81 @@
+-- What holds of a branch that stopped, by the cause that is told.
+use Rattle.std.specs.Prelude.{◌≡◌, Bool, true, false, IsTrue, if◌then◌else◌, List, length}
+use Rattle.std.specs.List.{All}
+use Rattle.esc_term.specs.declared.formula.Formula.{Formula}
+use Rattle.esc_term.specs.declared.formula.Formula.TheVariants.{Eq, Not}
+use Rattle.esc_term.specs.declared.formula.Item.{Item}
+use Rattle.esc_term.specs.Refuted.{Follows}
+use Rattle.esc_clause.specs.Refinement.{is_same_place}
+use Rattle.esc_clause.specs.declared.occurrence.Occurrence.{Occurrence}
+use Rattle.esc_fact.specs.Fact.{formulas_of}
+use Rattle.esc_fact.specs.Legal.{IsLegal}
+use Rattle.esc_fact.specs.declared.base.Base.{Base}
+use Rattle.esc_simplex.specs.declared.stop.Stop.{Stop}
+use Rattle.esc_simplex.specs.declared.stop.Stop.TheVariants as stop
+use Rattle.esc_outcome.specs.Grown.{Grown}
+use Rattle.esc_outcome.specs.Jam.{IsJam}
+use Rattle.esc_outcome.specs.Tree.{IsOccurrence, formulas_at, path_of}
+use Rattle.esc_outcome.specs.declared.branch.Branch.{Branch}
+use Rattle.esc_outcome.specs.declared.branch.Cause.{Cause}
+use Rattle.esc_outcome.specs.declared.branch.Cause.TheVariants as cause
+use Rattle.esc_outcome.specs.declared.limits.Limits.{Limits}
+use Rattle.esc_outcome.specs.declared.stuck.Stuck.{Stuck}
+
+-- the item as a formula
+abbrev pub stated : Item → Formula
+stated item = if item.positive then item.formula else Not item.formula
+
+-- each literal follows from the formulas
+abbrev pub AllFollow : List Formula → List Item → Type 0
+AllFollow fs = All (λ item. Follows fs (stated item))
+
+-- what the log says with what is decided on the branch
+abbrev pub formulas_on : Base → Branch → List Formula
+formulas_on base branch = formulas_at (formulas_of base branch.log) branch.splits branch.under
+
+-- ---- arithmetic
+
+-- a step does not fit
+abbrev pub is_overflow : Stop → Bool
+is_overflow (stop.Spill jammed) = true
+is_overflow (stop.Form t) = true
+is_overflow (stop.Pivots jammed) = false
+is_overflow stop.Memory = false
+
+-- a maximising goes on after its limit
+abbrev pub is_endless : Stop → Bool
+is_endless (stop.Spill jammed) = false
+is_endless (stop.Form t) = false
+is_endless (stop.Pivots jammed) = true
+is_endless stop.Memory = false
+
+-- the arithmetic stopped on what follows from the log and the branch
+pub record IsStuck (base : Base) (limits : Limits) (branch : Branch) (stuck : Stuck) : Type 0 where
+  pub grown : Grown base limits.depth branch
+  pub jam : IsJam (formulas_of base branch.log) limits.pivots stuck
+  pub literals : AllFollow (formulas_on base branch) stuck.literals
+  pub told : All (λ pair. Follows (formulas_on base branch) (Eq pair.0 pair.1)) stuck.told
+
+-- ---- splits
+
+-- the occurrence is not decided on the branch
+abbrev pub IsUndecided : Branch → Occurrence → Type 0
+IsUndecided branch at = All (λ d. is_same_place d.at at ≡ false) (path_of branch.splits branch.under)
+
+-- there are as many splits as may be, and this one could come
+pub record IsOutOfSplits (base : Base) (limits : Limits) (branch : Branch) (next : Occurrence) :
+    Type 0 where
+  pub grown : Grown base limits.depth branch
+  pub legal : IsLegal base branch.log
+  pub spent : length branch.splits ≡ limits.splits
+  pub next_there : IsOccurrence (formulas_of base branch.log) next
+  pub next_new : IsUndecided branch next
+
+-- ---- all causes
+
+abbrev pub IsCause : Base → Limits → Cause → Type 0
+IsCause base limits (cause.Overflow branch stuck) =
+    IsStuck base limits branch stuck × IsTrue (is_overflow stuck.jam)
+IsCause base limits (cause.Pivots branch stuck) =
+    IsStuck base limits branch stuck × IsTrue (is_endless stuck.jam)
+IsCause base limits (cause.Splits branch next) = IsOutOfSplits base limits branch next
