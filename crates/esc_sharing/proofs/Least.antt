@@ -125,7 +125,7 @@ module _ (v : Shared) (parts : AreParts v) where
 
   module _ (exact : AdmitsAll v) (agree : Agree v) where
     -- what is admitted suits literals and classes
-    admitted_suits : (x : Assignment) → v.admits x
+    pub admitted_suits : (x : Assignment) → v.admits x
         → Suits (literals_in v) (number_terms v.numbers) (same_in v.graph) x
     admitted_suits x admitted = record {
       satisfies = admitted_satisfies v exact x admitted;

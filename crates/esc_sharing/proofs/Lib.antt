@@ -1,6 +1,8 @@
 pub mod AddedNumber
+pub mod AdmittedSuits
 pub mod Alike
 pub mod AskedOrders
+pub mod BesideQuantified
 pub mod BoundNodes
 pub mod ClassTests
 pub mod Consistent
@@ -20,6 +22,7 @@ pub mod ModelTest
 pub mod ModelValues
 pub mod NoModel
 pub mod Restricting
+pub mod SaidInModels
 pub mod Settling
 pub mod SharingNotes
 pub mod Starting

@@ -29,7 +29,7 @@ module _ (M : Model) where
   pub are_equal : (s t : Term) → value_in M s ≡ value_in M t → IsTrue (equal_in s t)
   are_equal s t e = (Decides-int_eq (value_in M s) (value_in M t)).1 e
 
-  equivalence : IsEquivalence equal_in
+  pub equivalence : IsEquivalence equal_in
   equivalence = record {
     refl = λ t. int_eq_equiv.refl (value_in M t);
     symm = λ s t. int_eq_equiv.symm (value_in M s) (value_in M t);

@@ -4,9 +4,11 @@ pub mod ArithmeticLaws
 pub mod AssertingInside
 pub mod Calls
 pub mod Literals
+pub mod ModelLaws
 pub mod Nodes
 pub mod Numbers
 pub mod SettlingInside
 pub mod Shared
 pub mod SharingUndo
 pub mod Stops
+pub mod Unquantified

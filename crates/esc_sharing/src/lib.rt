@@ -5,6 +5,7 @@ mod arithmetic;
 mod asserting;
 mod joins;
 mod known;
+mod laws;
 mod literal;
 mod record;
 mod rounds;
@@ -13,6 +14,7 @@ mod steps;
 mod telling;
 mod theory;
 
+pub use laws::{admitted_laws, model_laws, unquantified_laws};
 pub use literal::{Lit, Lits, NodePairs};
 pub use record::{CarriesShare, PartRec, ShareRec};
 pub use sharing::Sharing;

@@ -1,0 +1,16 @@
+pub mod ClassTerms
+pub mod ClassValues
+pub mod FactLabels
+pub mod HeldApart
+pub mod Holding
+pub mod LabelLevels
+pub mod Listing
+pub mod LabelsBehind
+pub mod Leaders
+pub mod LiteralSigns
+pub mod Marking
+pub mod NamesOnce
+pub mod NoNodes
+pub mod Passing
+pub mod SomeTwo
+pub mod Telling

@@ -1,0 +1,4 @@
+pub mod ClassesInside
+pub mod HeldApartInside
+pub mod JudgingInside
+pub mod Left
