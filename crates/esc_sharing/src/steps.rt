@@ -1,8 +1,9 @@
 //! A literal that is on the list goes into graph or theory.
 
-ghost use Rattle.std.specs.Prelude.{◌≡◌, ℕ, [], ◌∷◌, ◌++◌, IfErr, OnErr, OnOk};
+ghost use Rattle.std.specs.Prelude.{◌≡◌, ℕ, [], ◌∷◌, ◌++◌, false, length, IfErr, IsTrue};
+ghost use Rattle.std.specs.Prelude.{OnErr, OnOk};
 ghost use Rattle.esc_union.specs.Merges.{SameClass};
-ghost use Rattle.esc_egraph.specs.Graph.{number_of};
+ghost use Rattle.esc_egraph.specs.Graph.{Adds, number_of};
 ghost use Rattle.esc_sharing.specs.AssertingInside.{IsAsserting, IsOrder};
 ghost use Rattle.esc_sharing.specs.KnownInside.{AreKnownBy, AreLabeled};
 ghost use Rattle.esc_sharing.specs.Literals.{sides};
@@ -62,10 +63,29 @@ impl<T: Theory> Sharing<T> {
             (arithmetic_among (T.numbers self.old.theory) (pair_terms self.old.graph (sides lit)))
             (number_terms (T.numbers self.old.theory)))) }
     {
+        let order = is_order(&lit);
+        let before = self.graph.merges().len();
         match self.take_literal(lit, trail)? {
             State::Closed => Ok(State::Closed),
-            State::Open => self.settle(known, trail),
+            State::Open => {
+                if self.is_quiet(order, before) {
+                    return Ok(State::Open);
+                }
+                self.settle(known, trail)
+            }
         }
+    }
+
+    /// Whether neither classes nor what is admitted changed, by whether the theory was asked to
+    /// restrict it, and how many merges there were before.
+    fn is_quiet(&self, order: bool, before: usize) -> bool
+        ensures order { IsTrue result → order ≡ false }
+        ensures merges { IsTrue result → length self.now.graph.merges ≡ before }
+    {
+        if order {
+            return false;
+        }
+        self.graph.merges().len() == before
     }
 
     /// The last literal goes where its kind belongs.
@@ -78,6 +98,8 @@ impl<T: Theory> Sharing<T> {
         ensures ends { StepEnds (seen T.sound T.admits T.numbers self.new)
             (IsUnsettled (seen T.sound T.admits T.numbers self.new)
             (SameClass (number_of self.old.graph))) result }
+        ensures merges { Adds self.old.graph.merges self.new.graph.merges }
+        ensures theory { (IsOrder lit → ⊥) → self.new.theory ≡ self.old.theory }
         ensures keeps { Keeps T.undo
             (part_carried R.carried_node R.carried_group R.carried_share R.carried) T.sound
             T.numbers T.made [] [] trail.old.records trail.new.records self.old self.new }
@@ -105,6 +127,8 @@ impl<T: Theory> Sharing<T> {
         ensures ends { StepEnds (seen T.sound T.admits T.numbers self.new)
             (IsUnsettled (seen T.sound T.admits T.numbers self.new)
             (SameClass (number_of self.old.graph))) result }
+        ensures merges { Adds self.old.graph.merges self.new.graph.merges }
+        ensures theory { self.new.theory ≡ self.old.theory }
         ensures keeps { Keeps T.undo
             (part_carried R.carried_node R.carried_group R.carried_share R.carried) T.sound
             T.numbers T.made [] [] trail.old.records trail.new.records self.old self.new }
@@ -128,6 +152,8 @@ impl<T: Theory> Sharing<T> {
         ensures ends { StepEnds (seen T.sound T.admits T.numbers self.new)
             (IsUnsettled (seen T.sound T.admits T.numbers self.new)
             (SameClass (number_of self.old.graph))) result }
+        ensures merges { self.new.graph.merges ≡ self.old.graph.merges }
+        ensures theory { self.new.theory ≡ self.old.theory }
         ensures keeps { Keeps T.undo
             (part_carried R.carried_node R.carried_group R.carried_share R.carried) T.sound
             T.numbers T.made [] [] trail.old.records trail.new.records self.old self.new }
@@ -150,6 +176,7 @@ impl<T: Theory> Sharing<T> {
         ensures ends { StepEnds (seen T.sound T.admits T.numbers self.new)
             (IsUnsettled (seen T.sound T.admits T.numbers self.new)
             (SameClass (number_of self.old.graph))) result }
+        ensures graph { self.new.graph ≡ self.old.graph }
         ensures keeps { Keeps T.undo
             (part_carried R.carried_node R.carried_group R.carried_share R.carried) T.sound
             T.numbers T.made [] [] trail.old.records trail.new.records self.old self.new }
@@ -158,5 +185,15 @@ impl<T: Theory> Sharing<T> {
             (number_terms (T.numbers self.old.theory)))) }
     {
         self.theory.assert(&self.graph, lit, trail)
+    }
+}
+
+/// Whether a literal restricts what the theory admits.
+fn is_order(lit: &Lit) -> bool
+    ensures { result ≡ false → IsOrder lit.now → ⊥ }
+{
+    match lit {
+        Lit::Equal(_, _) | Lit::Apart(_, _) => false,
+        Lit::Below(_, _) | Lit::AtMost(_, _) => true,
     }
 }
