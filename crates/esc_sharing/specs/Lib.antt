@@ -1,8 +1,10 @@
+pub mod AddingInside
 pub mod Admitted
 pub mod ArithmeticInside
 pub mod ArithmeticLaws
 pub mod AssertingInside
 pub mod Calls
+pub mod KnownInside
 pub mod Literals
 pub mod ModelLaws
 pub mod Nodes

@@ -1,12 +1,15 @@
 //! A graph of terms and a theory share equalities until neither has one that the other lacks.
 #![tactic(auto)]
 
+mod adding;
 mod arithmetic;
 mod asserting;
 mod joins;
 mod known;
 mod laws;
 mod literal;
+mod nodes;
+mod numbers;
 mod record;
 mod rounds;
 mod sharing;

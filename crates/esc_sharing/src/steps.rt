@@ -1,8 +1,11 @@
 //! A literal that is on the list goes into graph or theory.
 
-ghost use Rattle.std.specs.Prelude.{◌≡◌, [], ◌∷◌, ◌++◌, length, IfErr, OnErr, OnOk};
-ghost use Rattle.esc_egraph.specs.Graph.{number_of};
+ghost use Rattle.std.specs.Prelude.{◌≡◌, ℕ, [], ◌∷◌, ◌++◌, false, length, IfErr, IsTrue};
+ghost use Rattle.std.specs.Prelude.{OnErr, OnOk};
+ghost use Rattle.esc_union.specs.Merges.{SameClass};
+ghost use Rattle.esc_egraph.specs.Graph.{Adds, number_of};
 ghost use Rattle.esc_sharing.specs.AssertingInside.{IsAsserting, IsOrder};
+ghost use Rattle.esc_sharing.specs.KnownInside.{AreKnownBy, AreLabeled};
 ghost use Rattle.esc_sharing.specs.Literals.{sides};
 ghost use Rattle.esc_sharing.specs.Numbers.{arithmetic_among, number_terms, pair_terms};
 ghost use Rattle.esc_sharing.specs.SettlingInside.{IsUnsettled, Keeps, StepEnds};
@@ -18,7 +21,6 @@ use esc_distinct::CarriesGroups;
 use esc_egraph::{CarriesNodes, Node, State};
 use esc_simplex::Stop;
 use esc_trail::{Carries, Trail};
-use esc_union::Partition;
 use std::alloc::AllocError;
 
 impl<T: Theory> Sharing<T> {
@@ -45,12 +47,13 @@ impl<T: Theory> Sharing<T> {
     pub(crate) fn settle_literal<R: CarriesNodes + CarriesGroups + CarriesShare + Carries<T::Rec>>(
         &mut self,
         lit: Lit,
-        known: &mut Partition,
+        known: &mut [(Node, usize)],
         trail: &mut Trail<R>,
     ) -> Result<State, Stop>
         requires asserting { IsAsserting (seen T.sound T.admits T.numbers self.old) lit }
-        requires count { known.old.count ≡ length self.old.graph.nodes }
-        requires merges { known.old.merges ≡ self.old.graph.merges }
+        requires labeled { AreLabeled (T.numbers self.old.theory) known.old }
+        requires known { (a b : ℕ) → AreKnownBy known.old a b
+            → SameClass (number_of self.old.graph) a b }
         ensures ends { StepEnds (seen T.sound T.admits T.numbers self.new)
             (IsShared (seen T.sound T.admits T.numbers self.new)) result }
         ensures keeps { Keeps T.undo
@@ -60,10 +63,29 @@ impl<T: Theory> Sharing<T> {
             (arithmetic_among (T.numbers self.old.theory) (pair_terms self.old.graph (sides lit)))
             (number_terms (T.numbers self.old.theory)))) }
     {
+        let order = is_order(&lit);
+        let before = self.graph.merges().len();
         match self.take_literal(lit, trail)? {
             State::Closed => Ok(State::Closed),
-            State::Open => self.settle(known, trail),
+            State::Open => {
+                if self.is_quiet(order, before) {
+                    return Ok(State::Open);
+                }
+                self.settle(known, trail)
+            }
         }
+    }
+
+    /// Whether neither classes nor what is admitted changed, by whether the theory was asked to
+    /// restrict it, and how many merges there were before.
+    fn is_quiet(&self, order: bool, before: usize) -> bool
+        ensures order { IsTrue result → order ≡ false }
+        ensures merges { IsTrue result → length self.now.graph.merges ≡ before }
+    {
+        if order {
+            return false;
+        }
+        self.graph.merges().len() == before
     }
 
     /// The last literal goes where its kind belongs.
@@ -75,7 +97,9 @@ impl<T: Theory> Sharing<T> {
         requires asserting { IsAsserting (seen T.sound T.admits T.numbers self.old) lit }
         ensures ends { StepEnds (seen T.sound T.admits T.numbers self.new)
             (IsUnsettled (seen T.sound T.admits T.numbers self.new)
-            (number_of self.old.graph)) result }
+            (SameClass (number_of self.old.graph))) result }
+        ensures merges { Adds self.old.graph.merges self.new.graph.merges }
+        ensures theory { (IsOrder lit → ⊥) → self.new.theory ≡ self.old.theory }
         ensures keeps { Keeps T.undo
             (part_carried R.carried_node R.carried_group R.carried_share R.carried) T.sound
             T.numbers T.made [] [] trail.old.records trail.new.records self.old self.new }
@@ -102,7 +126,9 @@ impl<T: Theory> Sharing<T> {
             (Lit.Equal a b) }
         ensures ends { StepEnds (seen T.sound T.admits T.numbers self.new)
             (IsUnsettled (seen T.sound T.admits T.numbers self.new)
-            (number_of self.old.graph)) result }
+            (SameClass (number_of self.old.graph))) result }
+        ensures merges { Adds self.old.graph.merges self.new.graph.merges }
+        ensures theory { self.new.theory ≡ self.old.theory }
         ensures keeps { Keeps T.undo
             (part_carried R.carried_node R.carried_group R.carried_share R.carried) T.sound
             T.numbers T.made [] [] trail.old.records trail.new.records self.old self.new }
@@ -125,7 +151,9 @@ impl<T: Theory> Sharing<T> {
             (Lit.Apart a b) }
         ensures ends { StepEnds (seen T.sound T.admits T.numbers self.new)
             (IsUnsettled (seen T.sound T.admits T.numbers self.new)
-            (number_of self.old.graph)) result }
+            (SameClass (number_of self.old.graph))) result }
+        ensures merges { self.new.graph.merges ≡ self.old.graph.merges }
+        ensures theory { self.new.theory ≡ self.old.theory }
         ensures keeps { Keeps T.undo
             (part_carried R.carried_node R.carried_group R.carried_share R.carried) T.sound
             T.numbers T.made [] [] trail.old.records trail.new.records self.old self.new }
@@ -147,7 +175,8 @@ impl<T: Theory> Sharing<T> {
         requires order { IsOrder lit }
         ensures ends { StepEnds (seen T.sound T.admits T.numbers self.new)
             (IsUnsettled (seen T.sound T.admits T.numbers self.new)
-            (number_of self.old.graph)) result }
+            (SameClass (number_of self.old.graph))) result }
+        ensures graph { self.new.graph ≡ self.old.graph }
         ensures keeps { Keeps T.undo
             (part_carried R.carried_node R.carried_group R.carried_share R.carried) T.sound
             T.numbers T.made [] [] trail.old.records trail.new.records self.old self.new }
@@ -156,5 +185,15 @@ impl<T: Theory> Sharing<T> {
             (number_terms (T.numbers self.old.theory)))) }
     {
         self.theory.assert(&self.graph, lit, trail)
+    }
+}
+
+/// Whether a literal restricts what the theory admits.
+fn is_order(lit: &Lit) -> bool
+    ensures { result ≡ false → IsOrder lit.now → ⊥ }
+{
+    match lit {
+        Lit::Equal(_, _) | Lit::Apart(_, _) => false,
+        Lit::Below(_, _) | Lit::AtMost(_, _) => true,
     }
 }
