@@ -17,6 +17,7 @@ pub mod Gapped
 pub mod Gapping
 pub mod Grown
 pub mod Keeping
+pub mod Keyed
 pub mod Kept
 pub mod Lifted
 pub mod Listing

@@ -1,4 +1,5 @@
 pub mod Senses
+pub mod KeyedInside
 pub mod View
 pub mod SimplexUndo
 pub mod Barred

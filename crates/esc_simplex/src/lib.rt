@@ -3,12 +3,15 @@
 #![tactic(auto)]
 
 mod adding;
+mod bindings;
+mod entries;
 mod laws;
 mod made;
 mod maximising;
 mod record;
 mod simplex;
 mod stop;
+mod uses;
 
 pub use laws::value_laws;
 pub use made::Made;
