@@ -1,6 +1,6 @@
 -- How lists are held whose entries are found by a number.
 use Rattle.std.specs.Prelude.{◌≡◌, ℕ, ◌%◌, ◌^◌, List, map}
-use Rattle.esc_term.specs.Digest.{mixed, term_mixed}
+use Rattle.esc_term.specs.Digest.{term_mixed}
 use Rattle.esc_term.specs.declared.term.Term.{Term}
 use Rattle.esc_simplex.specs.declared.made.Made.{Made}
 use Rattle.esc_simplex.specs.declared.made.Made.TheVariants as made

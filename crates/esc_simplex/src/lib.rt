@@ -13,7 +13,7 @@ mod simplex;
 mod stop;
 mod uses;
 
-pub use laws::value_laws;
+pub use laws::{back_laws, value_laws};
 pub use made::Made;
 pub use record::SimplexRec;
 pub use simplex::Simplex;

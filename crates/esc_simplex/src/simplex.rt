@@ -278,6 +278,7 @@ impl Simplex {
             (Contains (both_gaps self.old u v))) }
         ensures keeps { KeepsLists self.old self.new }
         ensures restricted { self.new.restricted ≡ self.old.restricted }
+        ensures same { AreSame self.new self.old }
         ensures simplex { IsSimplex self.new }
     {
         if !are_alike(self.tableau.value(u), self.tableau.value(v)) {
@@ -394,6 +395,7 @@ impl Simplex {
         ensures keeps { KeepsLists self.old self.new }
         ensures restricted { self.new.restricted ≡ self.old.restricted }
         ensures simplex { IsSimplex self.new }
+        ensures same { AreSame self.new self.old }
         ensures ends { IfOk result (ExceedShows self.old upper lower) }
         ensures stop { IfErr result (IsBarred self.new (λ t. ⊥) (λ g. g
             ≡ gap_in self.old upper lower false)) }
