@@ -5,6 +5,7 @@
 mod adding;
 mod bindings;
 mod entries;
+mod keys;
 mod laws;
 mod made;
 mod maximising;
@@ -13,7 +14,7 @@ mod simplex;
 mod stop;
 mod uses;
 
-pub use laws::{back_laws, value_laws};
+pub use laws::{back_laws, key_laws, value_laws};
 pub use made::Made;
 pub use record::SimplexRec;
 pub use simplex::Simplex;
