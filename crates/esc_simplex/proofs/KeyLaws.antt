@@ -1,18 +1,19 @@
 -- Unknowns with different keys differ somewhere within the restrictions.
-use Rattle.std.proofs.Common.{◌≡◌, ◌≢◌, ◌⊎◌, inl, inr, ℕ, suc, ◌<◌, List, [], ◌∷◌, length, get_or, true≢false, true, false, refl, sym, ap, ap₂, ◌∙◌, subst, arith, if◌then◌else◌}
-use Rattle.std.specs.List.{All, fold}
+use Rattle.std.proofs.Common.{◌≡◌, ◌≢◌, ◌⊎◌, inl, inr, ℕ, suc, List, [], ◌∷◌, get_or, Result, Ok, Err, IfOk, Vec, Global, true≢false, true, false, sym, ap, ap₂, ◌∙◌, arith, if◌then◌else◌}
+use Rattle.std.specs.List.{fold}
 use Rattle.std.proofs.lemmas.Bool.{cases_Bool, cases_eq}
 use Rattle.std.proofs.lemmas.Bool.Decides.{Decides-int_eq}
 use Rattle.std.specs.Ordering.{int_eq}
+use Rattle.std.proofs.lemmas.List.{get_or_default}
 use Rattle.esc_frac.specs.Rational.{ℚ, is_zero, ratio}
 use Rattle.esc_frac.specs.RationalLaws.{ratio-parts}
 use Rattle.esc_term.specs.Digest.{mixed}
-use Rattle.esc_tableau.specs.Moving.{CanMove}
+use Rattle.esc_tableau.specs.Moving.{AreMoving}
 use Rattle.esc_tableau.specs.Rule.{slope}
 use Rattle.esc_tableau.specs.Table.{Table, sample}
 use Rattle.esc_tableau.proofs.MovingLaws.{moves_part}
 use Rattle.esc_simplex.specs.Calls.{IsForTerm}
-use Rattle.esc_simplex.specs.Keys.{ArePartedAt, KeysPart, MayMove, fraction_mixed, key, slope_mixed}
+use Rattle.esc_simplex.specs.Keys.{ArePartedAt, KeysPart, MayMove, fraction_mixed, slope_mixed}
 use Rattle.esc_simplex.specs.View.{IsSimplex}
 use Rattle.esc_simplex.specs.declared.simplex.Simplex.{Simplex}
 use Rattle.esc_simplex.proofs.Parting.{parted_at_sample, parted_in}
@@ -66,3 +67,9 @@ keys_part v h cs may u w first second s r other =
             ⊎ ArePartedAt v u w → (s ≢ r) ⊎ ArePartedAt v u w
         seeds (inl mixes) = inl (λ e. mixes (ap₂ fraction_mixed e same))
         seeds (inr parted) = inr parted
+
+pub moving_may : {E : Type 0} (t : Table) (r : Result (Vec ℕ Global) E)
+    → IfOk r (λ v. AreMoving t v.items) → IfOk r (λ v. MayMove t v.items)
+moving_may t (Ok v) are = λ k d inside. (are (get_or v.items k d)).0
+    (k, inside, get_or_default v.items k (get_or v.items k d) d inside)
+moving_may t (Err e) are = tt

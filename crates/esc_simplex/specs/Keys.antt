@@ -1,6 +1,6 @@
 -- Keys of unknowns: two with different keys differ somewhere within the restrictions. Nothing rests
 -- on two with one key being equal.
-use Rattle.std.specs.Prelude.{◌≢◌, ◌⊎◌, ℕ, ◌<◌, ◌%◌, ◌^◌, List, length, if◌then◌else◌}
+use Rattle.std.specs.Prelude.{◌≢◌, ◌⊎◌, ℕ, ℤ, pos, ◌<◌, ◌%◌, ◌^◌, List, length, if◌then◌else◌}
 use Rattle.std.specs.Int.{cast_unsigned}
 use Rattle.std.specs.List.{All, fold}
 use mir.Syntax.{w128}
@@ -15,9 +15,13 @@ use Rattle.esc_simplex.specs.Senses.{sense_value}
 use Rattle.esc_simplex.specs.View.{Allows, IsSimplex, sense_in}
 use Rattle.esc_simplex.specs.declared.simplex.Simplex.{Simplex}
 
+-- the lower half of a number of 128 bits
+abbrev pub low_word : ℤ → ℕ
+low_word n = cast_unsigned w128 n % 2 ^ 64
+
 -- the lower halves of its two numbers, mixed into a number
 unfoldable pub fraction_mixed : ℕ → ℚ → ℕ
-fraction_mixed seed q = mixed (mixed seed (cast_unsigned w128 q.num % 2 ^ 64)) (q.den % 2 ^ 64)
+fraction_mixed seed q = mixed (mixed seed (low_word q.num)) (low_word (pos q.den))
 
 -- how fast u rises with the owner of a column, where it does, mixed into a number
 abbrev pub slope_mixed : Table → ℕ → ℕ → ℕ → ℕ

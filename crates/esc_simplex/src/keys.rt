@@ -53,7 +53,7 @@ impl Simplex {
 fn mix_fraction(seed: u64, fraction: Frac) -> u64
     ensures { result ≡ fraction_mixed seed fraction }
 {
-    let num = fraction.num().cast_unsigned() as u64;
-    let den = fraction.den().cast_unsigned() as u64;
-    mix(mix(seed, num), den)
+    let num = fraction.num().cast_unsigned() % 0x1_0000_0000_0000_0000;
+    let den = fraction.den().cast_unsigned() % 0x1_0000_0000_0000_0000;
+    mix(mix(seed, num as u64), den as u64)
 }
