@@ -2,6 +2,7 @@ pub mod AddedNumber
 pub mod Alike
 pub mod AskedOrders
 pub mod BoundNodes
+pub mod ChosenClasses
 pub mod ClassTests
 pub mod Consistent
 pub mod Demanded

@@ -3,6 +3,7 @@ pub mod ArithmeticInside
 pub mod ArithmeticLaws
 pub mod AssertingInside
 pub mod Calls
+pub mod ClassesInside
 pub mod Literals
 pub mod Nodes
 pub mod Numbers

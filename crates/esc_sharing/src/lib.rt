@@ -3,9 +3,11 @@
 
 mod arithmetic;
 mod asserting;
+mod classes;
 mod joins;
 mod known;
 mod literal;
+mod missed;
 mod record;
 mod rounds;
 mod sharing;

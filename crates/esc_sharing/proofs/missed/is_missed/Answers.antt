@@ -10,7 +10,7 @@ use Rattle.esc_sharing.specs.Numbers.{IsGapOf, number_terms}
 use Rattle.esc_sharing.proofs.BoundNodes.{both_of_numbers, for_bound, node_is_there}
 use Rattle.esc_sharing.proofs.MissedPairs.{only_itself, part_shows}
 use Rattle.esc_sharing.proofs.Restricting.{barred_wider}
-use Rattle.esc_sharing.proofs.arithmetic.is_missed.Goals as goal
+use Rattle.esc_sharing.proofs.missed.is_missed.Goals as goal
 
 pub same-together-requires-clause-a_is_there : goal.same-together-requires-clause-a_is_there
 same-together-requires-clause-a_is_there c = node_is_there c.args.simplex.now c.args.first.now.0
