@@ -1,4 +1,4 @@
-use Rattle.std.proofs.Common.{sym, subst, ap, ◌∙◌}
+use Rattle.std.proofs.Common.{subst, ap, ◌∙◌}
 use Rattle.esc_index.specs.Places.{HasNone}
 use Rattle.esc_simplex.specs.View.{bound_to}
 use Rattle.esc_simplex.proofs.Finding.{bound_back}

@@ -1,4 +1,4 @@
-use Rattle.std.proofs.Common.{length, sym, subst}
+use Rattle.std.proofs.Common.{sym, subst}
 use Rattle.std.specs.List.{Contains}
 use Rattle.esc_index.specs.Places.{HasNone}
 use Rattle.esc_simplex.proofs.Keyed.{keyed_none}
