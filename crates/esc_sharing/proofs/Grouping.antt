@@ -10,7 +10,7 @@ use Rattle.std.specs.Prelude.{Result, Ok, Err}
 use Rattle.esc_term.specs.declared.term.Term.{Term}
 use Rattle.esc_nodes.specs.Terms.{terms_of}
 use Rattle.esc_cover.specs.Assignment.{Assignment}
-use Rattle.esc_union.specs.Merges.{class_number}
+use Rattle.esc_union.specs.Merges.{SameClass}
 use Rattle.esc_egraph.specs.Graph.{number_of}
 use Rattle.esc_egraph.specs.declared.state.State.{State}
 use Rattle.esc_egraph.specs.declared.state.State.TheVariants.{Open, Closed}
@@ -38,6 +38,7 @@ use Rattle.esc_sharing.specs.declared.sharing.Sharing.{Sharing}
 use Rattle.esc_sharing.proofs.Demanded.{AreAmong, demanded_by_more}
 use Rattle.esc_sharing.proofs.Least.{demanded_by_least}
 use Rattle.esc_sharing.proofs.NoModel.{broken_no_model}
+use Rattle.esc_sharing.proofs.Whole.{settled}
 
 pub open_not_closed : (let s : State = Open in s) ≡ Closed → ⊥
 open_not_closed e = cc
@@ -70,7 +71,7 @@ module _ (v : Shared) (is : IsShared v) (group : List ℕ)
       (number_of v.graph) among (demanded_by_least v is.parts.graph is.least)
 
   pub group_open : (AreBroken (number_of v.graph) (v.groups ++ (group ∷ [])) → ⊥)
-      → IsUnsettled grouped (number_of v.graph)
+      → IsUnsettled grouped (SameClass (number_of v.graph))
   group_open unbroken = record {
     parts = record {
       sound = is.parts.sound;
@@ -118,9 +119,9 @@ module _ {T Q W : Type 0} (undo : Undo T Q) (carry : PartRec Q → W) (is_sound 
       lits more result
   step_asserts (Ok Open) ends = (keeps_adds, ends)
   step_asserts (Ok Closed) ends = (keeps_adds, ends)
-  step_asserts (Err (stop.Spill j)) ends = (inl keeps_adds, ends)
-  step_asserts (Err (stop.Form t)) ends = (inl keeps_adds, ends)
-  step_asserts (Err (stop.Pivots j)) ends = (inl keeps_adds, ends)
+  step_asserts (Err (stop.Spill j)) ends = (keeps_adds, ends)
+  step_asserts (Err (stop.Form t)) ends = (keeps_adds, ends)
+  step_asserts (Err (stop.Pivots j)) ends = (keeps_adds, ends)
   step_asserts (Err stop.Memory) ends = tt
 
 -- ---- a call that asserts a group
@@ -132,14 +133,15 @@ module _ (v : Shared) (is : IsShared v) (group : List ℕ)
   group_members = subst (All (All (λ n. n < node_count v.graph))) (sym pushed)
       (All-push (All (λ n. n < node_count v.graph)) v.groups group is.parts.members within)
 
-  pub group_unsettled : (ms : List (ℕ × ℕ)) → ms ≡ v.graph.merges
-      → (AreBroken (number_of v.graph) groups → ⊥)
-      → IsUnsettled (record v { groups = groups }) (class_number ms)
-  group_unsettled ms same unbroken =
-      subst (λ list. IsUnsettled (record v { groups = list }) (class_number ms)) (sym pushed)
-      (subst (λ list. IsUnsettled (grouped v is group within) (class_number list)) (sym same)
+  -- neither classes nor the theory change
+  pub group_shared : Branch → (AreBroken (number_of v.graph) groups → ⊥)
+      → IsShared (record v { groups = groups })
+  group_shared like unbroken =
+      subst (λ list. IsShared (record v { groups = list })) (sym pushed)
+      (settled (grouped v is group within) (SameClass (number_of v.graph)) like
       (group_open v is group within
-      (λ broken. unbroken (subst (AreBroken (number_of v.graph)) (sym pushed) broken))))
+      (λ broken. unbroken (subst (AreBroken (number_of v.graph)) (sym pushed) broken)))
+      is.agree.one_value is.agree.parted)
 
   pub group_no_model : Branch → AreBroken (number_of v.graph) groups
       → HaveNoModel (literals_in (record v { groups = groups }))

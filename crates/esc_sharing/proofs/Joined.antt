@@ -27,6 +27,7 @@ use Rattle.esc_branch.specs.declared.branch.Branch.{Branch}
 use Rattle.esc_sharing.proofs.Joining.{found_closed, found_open, joined_now, joined_view}
 use Rattle.esc_sharing.proofs.Least.{number_of_node}
 use Rattle.esc_sharing.proofs.SharingNotes.{keeps_graph}
+use Rattle.esc_sharing.proofs.ToldPairs.{JoinedBy}
 
 -- what an Ok holds
 pub ok_state : {E : Type 0} (s t : State) → (let r : Result State E = Ok s in r) ≡ Ok t → s ≡ t
@@ -43,8 +44,9 @@ adds_fewer old [] none = absurd (none refl)
 adds_fewer old (m ∷ ms) none = omega (arith, length-append old (m ∷ ms))
 
 module _ {T : Type 0} (is_sound : T → Type 0) (admits : T → Assignment → Type 0)
-    (numbers_of : T → List (ℕ × Term)) (entry exit : Sharing T) (a b : ℕ) (ms : List (ℕ × ℕ))
-    (is : IsUnsettled (seen is_sound admits numbers_of entry) (class_number ms))
+    (numbers_of : T → List (ℕ × Term)) (entry exit : Sharing T) (a b : ℕ)
+    (Known : ℕ → ℕ → Type 0)
+    (is : IsUnsettled (seen is_sound admits numbers_of entry) Known)
     (two : AreTwoNumbers entry.graph (numbers_of entry.theory) a b)
     (equal : AreEqualBy (admits entry.theory) (node_term entry.graph a) (node_term entry.graph b))
     (rest : exit ≡ record entry { graph = exit.graph })
@@ -76,19 +78,19 @@ module _ {T : Type 0} (is_sound : T → Type 0) (admits : T → Assignment → T
 
   pub join_open : IsGraph exit.graph → IsMet exit.graph
       → (AreBroken (number_of exit.graph) entry.groups → ⊥)
-      → (now : List (ℕ × ℕ)) → (now ≡ ms) ⊎ (now ≡ ms ++ ((a, b) ∷ []))
-      → IsUnsettled (seen is_sound admits numbers_of exit) (class_number now)
-  join_open graph met unbroken now known =
-      at_exit (λ w. IsUnsettled w (class_number now))
-      (found_open v merges a b al bl least ms is two.first two.second equal
-      (subst IsGraph others graph) (subst IsMet others met) unbroken now known)
+      → (Now : ℕ → ℕ → Type 0) → ((c d : ℕ) → Now c d → JoinedBy Known a b c d)
+      → IsUnsettled (seen is_sound admits numbers_of exit) Now
+  join_open graph met unbroken Now joined =
+      at_exit (λ w. IsUnsettled w Now)
+      (found_open v merges a b al bl least Known is two.first two.second equal
+      (subst IsGraph others graph) (subst IsMet others met) unbroken Now joined)
 
   pub join_closed : Branch → IsGraph exit.graph
       → IsBroken exit.graph ⊎ AreBroken (number_of exit.graph) entry.groups
       → HaveNoModel (literals_in (seen is_sound admits numbers_of exit))
   join_closed like graph broken =
       at_exit (λ w. HaveNoModel (literals_in w))
-      (found_closed v merges a b al bl least ms is two.first two.second equal like
+      (found_closed v merges a b al bl least Known is two.first two.second equal like
       (subst IsGraph others graph)
       (elim broken [ inl inside ↦ inl (subst IsBroken others inside) | inr twice ↦ inr twice ]))
 

@@ -1,5 +1,5 @@
 -- The classes of two nodes are joined that each congruent test joins.
-use Rattle.std.proofs.Common.{◌≡◌, ℕ, ◌<◌, ◌⊎◌, inl, inr, List, [], ◌∷◌, ◌++◌, map}
+use Rattle.std.proofs.Common.{◌≡◌, ℕ, ◌<◌, ◌⊎◌, inl, inr, List, ◌++◌, map}
 use Rattle.std.proofs.Common.{refl, ap, sym, subst, ◌∙◌, Bool}
 use Rattle.std.specs.Prelude.{◌↔◌}
 use Rattle.std.specs.List.{All, flat_map}
@@ -27,7 +27,7 @@ use Rattle.esc_sharing.proofs.Exactness.{satisfying_admitted}
 use Rattle.esc_sharing.proofs.Least.{number_of_node}
 use Rattle.esc_sharing.proofs.Lists.{All-each}
 use Rattle.esc_sharing.proofs.NoModel.{broken_no_model}
-use Rattle.esc_sharing.proofs.ToldPairs.{known_joined}
+use Rattle.esc_sharing.proofs.ToldPairs.{JoinedBy, known_joined}
 
 -- ---- what the theory finds equal is demanded
 
@@ -131,7 +131,7 @@ module _ (v : Shared) (merges : List (ℕ × ℕ)) where
 
       -- ---- a pair that the theory finds equal
 
-      module _ (ms : List (ℕ × ℕ)) (is : IsUnsettled v (class_number ms))
+      module _ (Known : ℕ → ℕ → Type 0) (is : IsUnsettled v Known)
           (an : IsNumber v.numbers a) (bn : IsNumber v.numbers b)
           (equal : AreEqualBy v.admits (node_term v.graph a) (node_term v.graph b)) where
         demanded_found : JoinsDemanded joined_view
@@ -140,9 +140,9 @@ module _ (v : Shared) (merges : List (ℕ × ℕ)) where
 
         pub found_open : IsGraph joined_graph → IsMet joined_graph
             → (AreBroken (class_number merges) v.groups → ⊥)
-            → (now : List (ℕ × ℕ)) → now ≡ ms ⊎ (now ≡ ms ++ ((a, b) ∷ []))
-            → IsUnsettled joined_view (class_number now)
-        found_open graph met unbroken now known = record {
+            → (Now : ℕ → ℕ → Type 0) → ((c d : ℕ) → Now c d → JoinedBy Known a b c d)
+            → IsUnsettled joined_view Now
+        found_open graph met unbroken Now joined = record {
           parts = record {
             sound = is.parts.sound;
             graph = graph;
@@ -160,13 +160,8 @@ module _ (v : Shared) (merges : List (ℕ × ℕ)) where
           exact = exact_now is.exact;
           some = is.some;
           demanded = demanded_found;
-          known_equal = elim known [
-            | inl same ↦ λ x y xn yn together. is.known_equal x y xn yn
-                (subst (λ pairs. SameClass (class_number pairs) x y) same together)
-            | inr more ↦ λ x y xn yn together. known_joined v ms a b an bn is.known_equal equal x y
-                xn
-                yn (subst (λ pairs. SameClass (class_number pairs) x y) more together)
-          ];
+          known_equal = λ x y xn yn together. known_joined v Known Now a b an bn is.known_equal
+              equal joined x y xn yn together;
         }
 
         pub found_closed : Branch → IsGraph joined_graph

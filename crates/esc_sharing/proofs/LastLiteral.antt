@@ -9,9 +9,7 @@ use Rattle.std.proofs.lemmas.List.{append-nil, map-append}
 use Rattle.std.proofs.lemmas.List.Elements.{All-append, All-contains, All-push, All-weaker}
 use Rattle.std.proofs.lemmas.List.Elements.{Contains-append_cases, Contains-append_left}
 use Rattle.std.proofs.lemmas.List.Elements.{Contains-append_right, Contains-push}
-use Rattle.esc_term.specs.declared.term.Term.{Term}
 use Rattle.esc_term.specs.declared.formula.Item.{Item}
-use Rattle.esc_term.specs.Model.{Model}
 use Rattle.esc_cover.specs.Assignment.{Assignment, Gap, NoneNegative, asked, asked_form}
 use Rattle.esc_cover.specs.Assignment.{gap_value}
 use Rattle.esc_cover.specs.Laws.{HoldsIn}
@@ -87,7 +85,7 @@ module _ (v : Shared) (is : IsShared v) (lit : Lit) (sides : AreSides v.graph v.
   sides-push : All (AreSides v.graph v.numbers) (v.asserted ++ (lit ∷ []))
   sides-push = All-push (AreSides v.graph v.numbers) v.asserted lit is.parts.sides sides
 
-  known_before : IsKnown v (number_of v.graph)
+  known_before : IsKnown v (SameClass (number_of v.graph))
   known_before a b an bn same x admitted = is.agree.one_value x admitted a b an bn same
 
   -- a literal that asks nothing
@@ -146,7 +144,7 @@ module _ (v : Shared) (is : IsShared v) (a b : ℕ)
   asks_nothing = ap (λ form. asked_form form false)
       (out-Eq (node_term v.graph a) (node_term v.graph b))
 
-  pub apart_open : IsMet kept_graph → IsUnsettled kept_view (number_of v.graph)
+  pub apart_open : IsMet kept_graph → IsUnsettled kept_view (SameClass (number_of v.graph))
   apart_open met = record {
     parts = record {
       sound = is.parts.sound;
@@ -217,7 +215,7 @@ module _ (v : Shared) (is : IsShared v) (a b : ℕ)
 
   pub equal_open : IsGraph equated_graph → IsMet equated_graph
       → (AreBroken (class_number merges) v.groups → ⊥)
-      → IsUnsettled equated_view (number_of v.graph)
+      → IsUnsettled equated_view (SameClass (number_of v.graph))
   equal_open graph met unbroken = record {
     parts = record {
       sound = is.parts.sound;
@@ -291,7 +289,7 @@ module _ (v : Shared) (is : IsShared v) (lit : Lit) (sides : AreSides v.graph v.
 
   pub order_open : denied_pair lit ≡ [] → IsMetIn v.graph lit
       → AdmitsWith v.admits Admits gaps → ((x : Assignment) × v.admits x × NoneNegative x gaps)
-      → IsUnsettled ordered_view (number_of v.graph)
+      → IsUnsettled ordered_view (SameClass (number_of v.graph))
   order_open denies_none met with_gaps found = record {
     parts = record {
       sound = sound;

@@ -7,7 +7,7 @@ use Rattle.std.proofs.lemmas.List.Elements.{All-contains_itself, All-nil}
 use Rattle.esc_term.specs.declared.term.Term.{Term}
 use Rattle.esc_cover.specs.Assignment.{Assignment, asked}
 use Rattle.esc_trail.specs.Undo.{IsLawful, Undo}
-use Rattle.esc_union.specs.Merges.{SameClass, class_number}
+use Rattle.esc_union.specs.Merges.{SameClass}
 use Rattle.esc_egraph.specs.Congruence.{EqualWith, IsBroken, IsLeast, IsMet}
 use Rattle.esc_egraph.specs.Graph.{Graph, IsGraph, number_of}
 use Rattle.esc_egraph.specs.declared.record.EgraphRec.{EgraphRec}
@@ -22,7 +22,6 @@ use Rattle.esc_simplex.specs.declared.stop.Stop.TheVariants as stop
 use Rattle.esc_sharing.specs.Admitted.{RestrictEnds}
 use Rattle.esc_sharing.specs.AssertingInside.{IsAsserting, IsOrder}
 use Rattle.esc_sharing.specs.Literals.{AreSides, item_of}
-use Rattle.esc_sharing.specs.Nodes.{node_count}
 use Rattle.esc_sharing.specs.SettlingInside.{IsUnsettled, Keeps, StepEnds}
 use Rattle.esc_sharing.specs.Shared.{HaveNoModel, IsMetIn, IsShared, IsUnderway, Shared}
 use Rattle.esc_sharing.specs.Shared.{denied_pair, literals_in, seen}
@@ -78,8 +77,8 @@ module _ {T : Type 0} (is_sound : T → Type 0) (admits : T → Assignment → T
         → RestrictEnds (admits entry.theory) (admits exit) (asked (item_of entry.graph lit)) result
         → StepEnds (seen is_sound admits numbers_of (record entry { theory = exit }))
         (IsUnsettled (seen is_sound admits numbers_of (record entry { theory = exit }))
-        (number_of entry.graph)) result
-    order_step (Ok Open) ends = at_order (λ w. IsUnsettled w (number_of entry.graph))
+        (SameClass (number_of entry.graph))) result
+    order_step (Ok Open) ends = at_order (λ w. IsUnsettled w (SameClass (number_of entry.graph)))
         (order_open before_literal at.shared lit at.sides (admits exit) (is_sound exit) sound
         (order_denies_none lit order) (order_met entry.graph lit order) ends.0 ends.1)
     order_step (Ok Closed) ends = at_order (λ w. HaveNoModel (literals_in w))
@@ -120,8 +119,8 @@ module _ {T : Type 0} (is_sound : T → Type 0) (admits : T → Assignment → T
         → (state ≡ Closed → SameClass (number_of entry.graph) a b)
         → StepEnds (seen is_sound admits numbers_of (record entry { graph = exit }))
         (IsUnsettled (seen is_sound admits numbers_of (record entry { graph = exit }))
-        (number_of entry.graph)) (Ok state)
-    apart_step like Open met same = at_apart (λ w. IsUnsettled w (number_of entry.graph))
+        (SameClass (number_of entry.graph))) (Ok state)
+    apart_step like Open met same = at_apart (λ w. IsUnsettled w (SameClass (number_of entry.graph)))
         (apart_open apart_before at.shared a b at.sides (subst IsMet forbids (met refl)))
     apart_step like Closed met same = at_apart (λ w. HaveNoModel (literals_in w))
         (apart_closed apart_before at.shared a b at.sides like (same refl))
@@ -160,9 +159,10 @@ module _ {T : Type 0} (is_sound : T → Type 0) (admits : T → Assignment → T
       → (state ≡ Closed
       → IsBroken exit.graph ⊎ AreBroken (number_of exit.graph) entry.groups)
       → StepEnds (seen is_sound admits numbers_of exit)
-      (IsUnsettled (seen is_sound admits numbers_of exit) (number_of entry.graph)) (Ok state)
+      (IsUnsettled (seen is_sound admits numbers_of exit) (SameClass (number_of entry.graph)))
+      (Ok state)
   equal_step like graph Open opens closes =
-      at_equal (λ w. IsUnsettled w (number_of entry.graph))
+      at_equal (λ w. IsUnsettled w (SameClass (number_of entry.graph)))
       (equal_open equal_before at.shared a b at.sides merges least (subst IsGraph others graph)
       (subst IsMet others (opens refl).0) (opens refl).1)
   equal_step like graph Closed opens closes =

@@ -20,10 +20,10 @@ use Rattle.esc_sharing.proofs.SharingNotes.{keeps_theory}
 use Rattle.esc_sharing.proofs.Whole.{settled}
 
 -- another theory that admits the same
-unsettled_alike : (v : Shared) (known : ℕ → ℕ) (Admits : Assignment → Type 0) (Sound : Type 0)
+unsettled_alike : (v : Shared) (Known : ℕ → ℕ → Type 0) (Admits : Assignment → Type 0) (Sound : Type 0)
     → ((x : Assignment) → v.admits x → Admits x) → ((x : Assignment) → Admits x → v.admits x)
-    → Sound → IsUnsettled v known → IsUnsettled (record v { admits = Admits; sound = Sound }) known
-unsettled_alike v known Admits Sound forth back sound is = record {
+    → Sound → IsUnsettled v Known → IsUnsettled (record v { admits = Admits; sound = Sound }) Known
+unsettled_alike v Known Admits Sound forth back sound is = record {
   parts = record {
     sound = sound;
     graph = is.parts.graph;
@@ -63,11 +63,11 @@ module _ {T Q : Type 0} (undo : Undo T Q) (law : IsLawful undo) (is_sound : T �
   abbrev with_numbers : List (ℕ × Term) → Shared
   with_numbers ns = record v { admits = admits exit; sound = is_sound exit; numbers = ns }
 
-  pub asked_unsettled : (known : ℕ → ℕ) → IsUnsettled v known → is_sound exit
-      → IsUnsettled (seen is_sound admits numbers_of (record entry { theory = exit })) known
-  asked_unsettled known is sound =
-      subst (λ ns. IsUnsettled (with_numbers ns) known) numbers
-      (unsettled_alike v known (admits exit) (is_sound exit) forth back sound is)
+  pub asked_unsettled : (Known : ℕ → ℕ → Type 0) → IsUnsettled v Known → is_sound exit
+      → IsUnsettled (seen is_sound admits numbers_of (record entry { theory = exit })) Known
+  asked_unsettled Known is sound =
+      subst (λ ns. IsUnsettled (with_numbers ns) Known) numbers
+      (unsettled_alike v Known (admits exit) (is_sound exit) forth back sound is)
 
   pub asked_two : (a b : ℕ) → AreTwoNumbers entry.graph (numbers_of entry.theory) a b
       → AreTwoNumbers entry.graph (numbers_of exit) a b
@@ -88,12 +88,12 @@ module _ {T Q : Type 0} (undo : Undo T Q) (law : IsLawful undo) (is_sound : T �
       (λ x admitted. agree x (back x admitted))
 
   -- nothing is left to be told
-  pub asked_shared : (known : ℕ → ℕ) → Branch → IsUnsettled v known → is_sound exit → AllAgree v
+  pub asked_shared : (Known : ℕ → ℕ → Type 0) → Branch → IsUnsettled v Known → is_sound exit → AllAgree v
       → NextEnds entry.graph (numbers_of entry.theory) (admits entry.theory) (Ok None)
       → IsShared (seen is_sound admits numbers_of (record entry { theory = exit }))
-  asked_shared known like is sound agree none =
-      settled (seen is_sound admits numbers_of (record entry { theory = exit })) known like
-      (asked_unsettled known is sound) (asked_agree agree)
+  asked_shared Known like is sound agree none =
+      settled (seen is_sound admits numbers_of (record entry { theory = exit })) Known like
+      (asked_unsettled Known is sound) (asked_agree agree)
       (λ a b two.
       let parted = none a b (of_asked_two a b two) in
       (parted.0, forth parted.0 parted.1, parted.2))

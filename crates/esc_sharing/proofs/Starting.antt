@@ -8,6 +8,7 @@ use Rattle.esc_term.proofs.Members.{Contains-none}
 use Rattle.esc_cover.specs.Assignment.{Assignment, NoneNegative, asked, gap_value}
 use Rattle.esc_nodes.specs.Nodes.{Shape}
 use Rattle.esc_nodes.specs.Terms.{at_place, built, terms_of}
+use Rattle.esc_union.specs.Merges.{SameClass}
 use Rattle.esc_egraph.specs.Congruence.{IsKnown, IsMade, IsMet}
 use Rattle.esc_egraph.specs.Graph.{Graph, IsGraph, number_of}
 use Rattle.esc_branch.specs.declared.branch.Branch.{Branch}
@@ -69,7 +70,7 @@ module _ (v : Shared) (truth : Term) (graph : IsGraph v.graph) (met : IsMet v.gr
       (ap (λ pairs. flat_map both_gaps (map (λ (pair : ℕ × ℕ).
       (node_term v.graph pair.0, node_term v.graph pair.1)) pairs)) told)
 
-  at_start : (x : Assignment) → IsUnsettled v (number_of v.graph)
+  at_start : (x : Assignment) → IsUnsettled v (SameClass (number_of v.graph))
   at_start x = record {
     parts = record {
       sound = sound;
@@ -94,6 +95,6 @@ module _ (v : Shared) (truth : Term) (graph : IsGraph v.graph) (met : IsMet v.gr
 
   pub starts : Branch → Assignment → IsShared v
   starts like x =
-      settled v (number_of v.graph) like (at_start x)
+      settled v (SameClass (number_of v.graph)) like (at_start x)
       (λ y admitted a b an bn same. absurd (no_number a an))
       (λ a b two. absurd (no_number a two.first))

@@ -1,16 +1,13 @@
 -- A pair is told: what the theory then admits, and that no model is left where it admits nothing.
-use Rattle.std.proofs.Common.{◌≡◌, ◌≢◌, ℕ, ◌+◌, ◌⊎◌, inl, inr, pos, ◌≤ℤ◌, List, []}
+use Rattle.std.proofs.Common.{◌≡◌, ℕ, ◌+◌, ◌⊎◌, inl, inr, pos, ◌≤ℤ◌, List, []}
 use Rattle.std.proofs.Common.{◌∷◌, ◌++◌, length, take, ap, sym, subst, ◌∙◌, arith}
 use Rattle.std.specs.Prelude.{◌↔◌}
 use Rattle.std.specs.List.{All, flat_map}
 use Rattle.std.proofs.Math.Seq.{take-append-add, take-length}
-use Rattle.std.proofs.lemmas.Bool.{cases_eq}
 use Rattle.std.proofs.lemmas.List.{map-append}
 use Rattle.std.proofs.lemmas.List.Elements.{All-append, All-push}
 use Rattle.esc_cover.specs.Assignment.{Assignment, Gap, NoneNegative, asked, gap_value, value}
 use Rattle.esc_trail.proofs.Ends.{take-append_last}
-use Rattle.esc_union.specs.Merges.{SameClass, class_number, moved}
-use Rattle.esc_union.proofs.Numbers.{class_number-more, moved_at, moved_other}
 use Rattle.esc_egraph.specs.Graph.{number_of}
 use Rattle.esc_sharing.specs.Admitted.{AdmitsWith, AdmitsWithSome, AreEqualBy, both_gaps}
 use Rattle.esc_sharing.specs.Nodes.{node_term}
@@ -27,52 +24,19 @@ use Rattle.esc_sharing.proofs.Lists.{flat_map-take_le}
 use Rattle.esc_sharing.proofs.ModelValues.{assignment_of, value-model}
 use Rattle.esc_sharing.proofs.NoModel.{models_are_admitted, told_follow}
 
--- ---- classes once two are joined
+-- ---- what is known once two nodes are equal
 
--- two nodes of one class stood in one before, or in the two that were joined
-pub same_before : (ms : List (ℕ × ℕ)) (m : ℕ × ℕ) (a b : ℕ)
-    → SameClass (class_number (ms ++ (m ∷ []))) a b
-    → SameClass (class_number ms) a b
-    ⊎ ((SameClass (class_number ms) a m.0 × SameClass (class_number ms) b m.1)
-    ⊎ (SameClass (class_number ms) a m.1 × SameClass (class_number ms) b m.0))
-same_before ms m a b e =
-    go (cases_eq (class_number ms a) (class_number ms m.0))
-    (cases_eq (class_number ms b) (class_number ms m.0))
-  where
-    old : ℕ → ℕ
-    old = class_number ms
-
-    after : moved (class_number ms m.0) (class_number ms m.1) (class_number ms a)
-        ≡ moved (class_number ms m.0) (class_number ms m.1) (class_number ms b)
-    after = sym (class_number-more ms m a) ∙ (e ∙ class_number-more ms m b)
-
-    at : (k : ℕ) → class_number ms k ≡ class_number ms m.0
-        → moved (class_number ms m.0) (class_number ms m.1) (class_number ms k)
-        ≡ class_number ms m.1
-    at k is = moved_at (class_number ms m.0) (class_number ms m.1) (class_number ms k) is
-
-    other : (k : ℕ) → class_number ms k ≢ class_number ms m.0
-        → moved (class_number ms m.0) (class_number ms m.1) (class_number ms k)
-        ≡ class_number ms k
-    other k ne = moved_other (class_number ms m.0) (class_number ms m.1) (class_number ms k) ne
-
-    go : (class_number ms a ≡ class_number ms m.0) ⊎ (class_number ms a ≢ class_number ms m.0)
-        → (class_number ms b ≡ class_number ms m.0) ⊎ (class_number ms b ≢ class_number ms m.0)
-        → SameClass (class_number ms) a b
-        ⊎ ((SameClass (class_number ms) a m.0 × SameClass (class_number ms) b m.1)
-        ⊎ (SameClass (class_number ms) a m.1 × SameClass (class_number ms) b m.0))
-    go (inl x) (inl y) = inl (x ∙ sym y)
-    go (inl x) (inr y) = inr (inl (x, sym (other b y) ∙ (sym after ∙ at a x)))
-    go (inr x) (inl y) = inr (inr (sym (other a x) ∙ (after ∙ at b y), y))
-    go (inr x) (inr y) = inl (sym (other a x) ∙ (after ∙ other b y))
+-- two nodes were known to be equal, or each to be one of the two
+abbrev pub JoinedBy : (ℕ → ℕ → Type 0) → ℕ → ℕ → ℕ → ℕ → Type 0
+JoinedBy Known a b c d = Known c d ⊎ ((Known c a × Known d b) ⊎ (Known c b × Known d a))
 
 -- what is known once two nodes are, to which all that is admitted gives one value
-pub known_joined : (v : Shared) (ms : List (ℕ × ℕ)) (a b : ℕ) → IsNumber v.numbers a
-    → IsNumber v.numbers b → IsKnown v (class_number ms)
+pub known_joined : (v : Shared) (Known Now : ℕ → ℕ → Type 0) (a b : ℕ) → IsNumber v.numbers a
+    → IsNumber v.numbers b → IsKnown v Known
     → AreEqualBy v.admits (node_term v.graph a) (node_term v.graph b)
-    → IsKnown v (class_number (ms ++ ((a, b) ∷ [])))
-known_joined v ms a b an bn known equal c d cn dn same x admitted =
-    elim (same_before ms (a, b) c d same) [
+    → ((c d : ℕ) → Now c d → JoinedBy Known a b c d) → IsKnown v Now
+known_joined v Known Now a b an bn known equal joined c d cn dn same x admitted =
+    elim (joined c d same) [
       | inl old ↦ known c d cn dn old x admitted
       | inr (inl (left, right)) ↦
           known c a cn an left x admitted
@@ -84,8 +48,9 @@ known_joined v ms a b an bn known equal c d cn dn same x admitted =
 
 -- ---- all that is asked is restricted
 
-pub all_underway : (v : Shared) (known : ℕ → ℕ) → IsUnsettled v known → IsUnderway v
-all_underway v known is = record {
+pub all_underway : (v : Shared) (Known : ℕ → ℕ → Type 0) → IsUnsettled v Known
+    → IsUnderway v
+all_underway v Known is = record {
   asking = length (flat_map asked (items_in v));
   telling = length (flat_map both_gaps (told_in v));
   last_literal = flat_map-take_le asked (items_in v) _;
@@ -101,7 +66,7 @@ all_underway v known is = record {
 
 -- ---- a pair is told
 
-module _ (v : Shared) (ms : List (ℕ × ℕ)) (is : IsUnsettled v (class_number ms)) (a b : ℕ)
+module _ (v : Shared) (Known : ℕ → ℕ → Type 0) (is : IsUnsettled v Known) (a b : ℕ)
     (pair : AreToldIn v.graph v.numbers (a, b)) (Admits : Assignment → Type 0) (Sound : Type 0)
     (sound : Sound) where
   abbrev pub telling_pair : Shared
@@ -151,7 +116,8 @@ module _ (v : Shared) (ms : List (ℕ × ℕ)) (is : IsUnsettled v (class_number
   -- ---- Open
 
   module _ (with_gaps : AdmitsWith v.admits Admits gaps)
-      (found : (x : Assignment) × v.admits x × NoneNegative x gaps) where
+      (found : (x : Assignment) × v.admits x × NoneNegative x gaps) (Now : ℕ → ℕ → Type 0)
+      (joined : (c d : ℕ) → Now c d → JoinedBy Known a b c d) where
     before : (x : Assignment) → Admits x → v.admits x
     before x admitted = ((with_gaps x).0 admitted).0
 
@@ -160,13 +126,13 @@ module _ (v : Shared) (ms : List (ℕ × ℕ)) (is : IsUnsettled v (class_number
     one_value x admitted =
         equal-both_gaps x (node_term v.graph a) (node_term v.graph b) ((with_gaps x).0 admitted).1
 
-    still_known : IsKnown telling_pair (class_number (ms ++ ((a, b) ∷ [])))
+    still_known : IsKnown telling_pair Now
     still_known c d cn dn same x admitted =
-        known_joined (record v { admits = Admits }) ms a b pair.first pair.second
+        known_joined (record v { admits = Admits }) Known Now a b pair.first pair.second
         (λ e f en fn together y taken. is.known_equal e f en fn together y (before y taken))
-        one_value c d cn dn same x admitted
+        one_value joined c d cn dn same x admitted
 
-    pub told_open : IsUnsettled telling_pair (class_number (ms ++ ((a, b) ∷ [])))
+    pub told_open : IsUnsettled telling_pair Now
     told_open = record {
       parts = record {
         sound = sound;

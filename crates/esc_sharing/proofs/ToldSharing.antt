@@ -4,7 +4,6 @@ use Rattle.std.specs.Prelude.{IsErr, Result, Ok, Err}
 use Rattle.esc_term.specs.declared.term.Term.{Term}
 use Rattle.esc_cover.specs.Assignment.{Assignment}
 use Rattle.esc_trail.specs.Undo.{IsLawful, Notes, Undo}
-use Rattle.esc_union.specs.Merges.{class_number}
 use Rattle.esc_egraph.specs.declared.record.EgraphRec.{EgraphRec}
 use Rattle.esc_egraph.specs.declared.state.State.{State}
 use Rattle.esc_egraph.specs.declared.state.State.TheVariants.{Open, Closed}
@@ -22,7 +21,7 @@ use Rattle.esc_sharing.specs.declared.record.ShareRec.{ShareRec}
 use Rattle.esc_sharing.specs.declared.record.ShareRec.TheVariants.{Told}
 use Rattle.esc_sharing.specs.declared.sharing.Sharing.{Sharing}
 use Rattle.esc_sharing.proofs.SharingNotes.{keeps_theory, keeps_then, keeps_told}
-use Rattle.esc_sharing.proofs.ToldPairs.{told_closed, told_open, told_underway}
+use Rattle.esc_sharing.proofs.ToldPairs.{JoinedBy, told_closed, told_open, told_underway}
 
 -- a step that is given up leaves a view that is underway
 pub ends_err : (w : Shared) (Done : Type 0) (result : Result State Stop) → IsErr result
@@ -57,8 +56,7 @@ module _ {T Q W : Type 0} (undo : Undo T Q) (law : IsLawful undo) (nodes : Egrap
 
 module _ {T : Type 0} (is_sound : T → Type 0) (admits : T → Assignment → Type 0)
     (numbers_of : T → List (ℕ × Term)) (entry between : Sharing T) (exit : T) (a b : ℕ)
-    (ms : List (ℕ × ℕ))
-    (is : IsUnsettled (seen is_sound admits numbers_of entry) (class_number ms))
+    (Known : ℕ → ℕ → Type 0) (is : IsUnsettled (seen is_sound admits numbers_of entry) Known)
     (pair : AreToldIn entry.graph (numbers_of entry.theory) (a, b))
     (pushed : between ≡ record entry { told = entry.told ++ ((a, b) ∷ []) })
     (numbers : numbers_of exit ≡ numbers_of between.theory) (sound : is_sound exit)
@@ -93,18 +91,16 @@ module _ {T : Type 0} (is_sound : T → Type 0) (admits : T → Assignment → T
       (sym pushed) (subst (λ ns. P (after ns)) (sym same_numbers) holds)
 
   pub tell_open : result ≡ Ok Open
-      → (now : List (ℕ × ℕ)) → now ≡ ms ++ ((a, b) ∷ [])
-      → IsUnsettled (seen is_sound admits numbers_of (record between { theory = exit }))
-      (class_number now)
-  tell_open e now grown =
+      → (Now : ℕ → ℕ → Type 0) → ((c d : ℕ) → Now c d → JoinedBy Known a b c d)
+      → IsUnsettled (seen is_sound admits numbers_of (record between { theory = exit })) Now
+  tell_open e Now joined =
       let open_ends : RestrictEnds (admits entry.theory) (admits exit)
       (both_gaps (node_term entry.graph a, node_term entry.graph b)) (Ok Open) =
       subst (RestrictEnds (admits entry.theory) (admits exit)
       (both_gaps (node_term entry.graph a, node_term entry.graph b))) e at_entry in
-      at_exit (λ w. IsUnsettled w (class_number now))
-      (subst (λ ns. IsUnsettled (after (numbers_of entry.theory)) (class_number ns)) (sym grown)
-      (told_open (seen is_sound admits numbers_of entry) ms is a b pair (admits exit)
-      (is_sound exit) sound open_ends.0 open_ends.1))
+      at_exit (λ w. IsUnsettled w Now)
+      (told_open (seen is_sound admits numbers_of entry) Known is a b pair (admits exit)
+      (is_sound exit) sound open_ends.0 open_ends.1 Now joined)
 
   pub tell_closed : result ≡ Ok Closed
       → HaveNoModel (literals_in (seen is_sound admits numbers_of
@@ -115,14 +111,14 @@ module _ {T : Type 0} (is_sound : T → Type 0) (admits : T → Assignment → T
       subst (RestrictEnds (admits entry.theory) (admits exit)
       (both_gaps (node_term entry.graph a, node_term entry.graph b))) e at_entry in
       at_exit (λ w. HaveNoModel (literals_in w))
-      (told_closed (seen is_sound admits numbers_of entry) ms is a b pair (admits exit)
+      (told_closed (seen is_sound admits numbers_of entry) Known is a b pair (admits exit)
       (is_sound exit) sound closed_ends.1)
 
   pub tell_given_up : (why : Stop) → result ≡ Err why
       → IsUnderway (seen is_sound admits numbers_of (record between { theory = exit }))
   tell_given_up why e =
       at_exit IsUnderway
-      (told_underway (seen is_sound admits numbers_of entry) ms is a b pair (admits exit)
+      (told_underway (seen is_sound admits numbers_of entry) Known is a b pair (admits exit)
       (is_sound exit) sound
       (subst (RestrictEnds (admits entry.theory) (admits exit)
       (both_gaps (node_term entry.graph a, node_term entry.graph b))) e at_entry))

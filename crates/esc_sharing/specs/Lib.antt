@@ -1,9 +1,11 @@
+pub mod AddingInside
 pub mod Admitted
 pub mod ArithmeticInside
 pub mod ArithmeticLaws
 pub mod AssertingInside
 pub mod Calls
 pub mod ClassesInside
+pub mod KnownInside
 pub mod Literals
 pub mod Nodes
 pub mod Numbers

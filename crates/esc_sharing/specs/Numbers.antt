@@ -1,5 +1,6 @@
 -- The arithmetic nodes of a theory, each beside its term, and what the theory may make of them.
 use Rattle.std.specs.Prelude.{◌≡◌, ℕ, ◌<◌, ◌==◌, List, [], ◌∷◌, ◌++◌, map, if◌then◌else◌}
+use Rattle.std.specs.Prelude.{slice_index_or}
 use Rattle.std.specs.List.{All, Contains, filter, flat_map, list_any}
 use Rattle.esc_term.specs.declared.term.Term.{Term}
 use Rattle.esc_linear.specs.Forms.{form}
@@ -15,6 +16,10 @@ nodes_of numbers = map (λ number. number.0) numbers
 -- the terms of the arithmetic nodes
 abbrev pub number_terms : List (ℕ × Term) → List Term
 number_terms numbers = map (λ number. number.1) numbers
+
+-- the arithmetic node at a place of their list
+abbrev pub number_node : List (ℕ × Term) → ℕ → ℕ
+number_node numbers place = slice_index_or (nodes_of numbers) place 0
 
 abbrev pub IsNumber : List (ℕ × Term) → ℕ → Type 0
 IsNumber numbers a = Contains (nodes_of numbers) a

@@ -1,13 +1,14 @@
 -- What holds while graph and theory tell each other equalities, and what each step leaves.
-use Rattle.std.specs.Prelude.{◌≡◌, ◌↔◌, ℕ, ◌<◌, Bool, IsTrue, List, ◌++◌, length, Result, Ok}
+use Rattle.std.specs.Prelude.{◌≡◌, ℕ, ◌<◌, Bool, IsTrue, List, ◌++◌, length, Result, Ok}
 use Rattle.std.specs.Prelude.{Err}
-use Rattle.std.specs.List.{Contains}
+use Rattle.std.specs.List.{All, Contains}
+use Rattle.std.specs.List.Sorted.{IsNonDecreasingBy}
 use Rattle.esc_term.specs.declared.term.Term.{Term}
 use Rattle.esc_term.specs.declared.formula.Item.{Item}
 use Rattle.esc_cover.specs.Assignment.{Assignment}
 use Rattle.esc_cover.specs.Least.{IsCongruent}
 use Rattle.esc_trail.specs.Undo.{Notes, Undo}
-use Rattle.esc_union.specs.Merges.{Merged, SameClass, class_number}
+use Rattle.esc_union.specs.Merges.{SameClass}
 use Rattle.esc_nodes.specs.Nodes.{Shape}
 use Rattle.esc_nodes.specs.Terms.{term_of, terms_of}
 use Rattle.esc_egraph.specs.Graph.{Graph, number_of}
@@ -18,6 +19,7 @@ use Rattle.esc_simplex.specs.declared.stop.Stop.{Stop}
 use Rattle.esc_simplex.specs.declared.stop.Stop.TheVariants as stop
 use Rattle.esc_sharing.specs.Admitted.{AgreesOn, AreEqualBy}
 use Rattle.esc_sharing.specs.Calls.{TellsMore}
+use Rattle.esc_sharing.specs.KnownInside.{node_at}
 use Rattle.esc_sharing.specs.Nodes.{node_term}
 use Rattle.esc_sharing.specs.Numbers.{AddsMade, IsNumber, number_terms}
 use Rattle.esc_sharing.specs.Shared.{AdmitsAll, AreParts, HaveNoModel, IsUnderway, Shared}
@@ -26,6 +28,7 @@ use Rattle.esc_sharing.specs.SharingUndo.{sharing_undo}
 use Rattle.esc_sharing.specs.declared.literal.Lit.{Lit}
 use Rattle.esc_sharing.specs.declared.record.PartRec.{PartRec}
 use Rattle.esc_sharing.specs.declared.sharing.Sharing.{Sharing}
+use Rattle.esc_sharing.specs.declared.telling.Telling.{Telling}
 
 -- ---- what is demanded
 
@@ -47,38 +50,42 @@ JoinsDemanded v =
 
 -- ---- while equalities are told
 
--- arithmetic nodes of one of these classes have one value in all that is admitted
-abbrev pub IsKnown : Shared → (ℕ → ℕ) → Type 0
-IsKnown v known = (a b : ℕ) → IsNumber v.numbers a → IsNumber v.numbers b → SameClass known a b
+-- arithmetic nodes that are known to be equal have one value in all that is admitted
+abbrev pub IsKnown : Shared → (ℕ → ℕ → Type 0) → Type 0
+IsKnown v Known = (a b : ℕ) → IsNumber v.numbers a → IsNumber v.numbers b → Known a b
     → AreEqualBy v.admits (node_term v.graph a) (node_term v.graph b)
 
 -- the literals are met, and the theory may not know all that the classes join
-pub record IsUnsettled (v : Shared) (known : ℕ → ℕ) : Type 0 where
+pub record IsUnsettled (v : Shared) (Known : ℕ → ℕ → Type 0) : Type 0 where
   pub parts : AreParts v
   pub exact : AdmitsAll v
   pub some : (x : Assignment) × v.admits x
   pub demanded : JoinsDemanded v
-  pub known_equal : IsKnown v known
+  pub known_equal : IsKnown v Known
 
--- all arithmetic nodes of the class of this one are known to be equal
-abbrev pub IsToldAt : Shared → (ℕ → ℕ) → ℕ → Type 0
-IsToldAt v known k = (a b : ℕ) → IsNumber v.numbers a → IsNumber v.numbers b
-    → SameClass (number_of v.graph) a k → SameClass (number_of v.graph) b k → SameClass known a b
+-- ---- in which order it is told
 
--- the list has the arithmetic nodes of the class of this one
-abbrev pub AreNumbersIn : Graph → List (ℕ × Term) → ℕ → List ℕ → Type 0
-AreNumbersIn g numbers k list = (n : ℕ) → Contains list n
-    ↔ ((n < length g.nodes) × SameClass (number_of g) n k × IsNumber numbers n)
+-- each seat has the place of a known node, beside the number of its class, in the order of these
+-- numbers; and each place has a seat
+pub record AreSeated (g : Graph) (known seats : List (ℕ × ℕ)) : Type 0 where
+  pub right : All (λ seat. (seat.1 < length known)
+      × (seat.0 ≡ number_of g (node_at known seat.1))) seats
+  pub each : (i : ℕ) → i < length known → Contains seats (number_of g (node_at known i), i)
+  pub rising : IsNonDecreasingBy (λ seat. seat.0) seats
+
+-- the known nodes at the first places, and at the later ones, stand in one class, and all of a class
+-- have the same first one
+pub record IsOrder (g : Graph) (known : List (ℕ × ℕ)) (order : List Telling) : Type 0 where
+  pub within : All (λ t. (t.first < length known) × (t.later < length known)
+      × SameClass (number_of g) (node_at known t.first) (node_at known t.later)) order
+  pub each : (i j : ℕ) → i < length known → j < length known
+      → SameClass (number_of g) (node_at known i) (node_at known j)
+      → (s t : Telling) × Contains order s × Contains order t × (s.first ≡ t.first)
+      × (s.later ≡ i) × (t.later ≡ j)
 
 -- what is admitted gives arithmetic nodes of one class one value
 abbrev pub AllAgree : Shared → Type 0
 AllAgree v = (x : Assignment) → v.admits x → AgreesOn v.graph v.numbers x
-
--- more nodes of as many are known to be equal
-pub record KnowsMore (old new : Merged) : Type 0 where
-  pub count : new.count ≡ old.count
-  pub kept : (a b : ℕ) → SameClass (class_number old.merges) a b
-      → SameClass (class_number new.merges) a b
 
 -- ---- what a step answers and leaves
 

@@ -41,6 +41,14 @@ impl Theory for Simplex {
 
     ghost barred = { λ v terms numbers stop. IsBarred v (Contains terms) (IsGapOf numbers) stop };
 
+    fn number_count(&self) -> usize {
+        self.bound_nodes().len()
+    }
+
+    fn number_at(&self, place: usize) -> Node {
+        self.bound_nodes()[place].0
+    }
+
     fn has_node(&self, a: Node) -> bool {
         self.unknown_of(a).is_some()
     }

@@ -11,7 +11,6 @@ ghost use Rattle.esc_sharing.specs.Shared.{IsShared, seen};
 ghost use Rattle.esc_sharing.specs.SharingUndo.{part_carried, sharing_undo};
 ghost use Rattle.esc_sharing.specs.Stops.{UnlessMemory};
 
-use crate::known::classes_of;
 use crate::literal::Lit;
 use crate::record::CarriesShare;
 use crate::sharing::Sharing;
@@ -43,7 +42,7 @@ impl<T: Theory> Sharing<T> {
             (part_carried R.carried_node R.carried_group R.carried_share R.carried)
             trail.old.records trail.new.records self.old self.new }
     {
-        let Ok(mut known) = classes_of(&self.graph, self.alloc) else {
+        let Ok(mut known) = self.known_numbers(self.theory.number_count()) else {
             return Err(Stop::Memory);
         };
         let again = copied(&lit);
@@ -74,14 +73,8 @@ impl<T: Theory> Sharing<T> {
             (part_carried R.carried_node R.carried_group R.carried_share R.carried)
             trail.old.records trail.new.records self.old self.new }
     {
-        let Ok(mut known) = classes_of(&self.graph, self.alloc) else {
-            return Err(Stop::Memory);
-        };
         match self.groups.add_group(nodes, trail) {
-            Ok(()) => match self.kept_apart(State::Open) {
-                State::Closed => Ok(State::Closed),
-                State::Open => self.settle(&mut known, trail),
-            },
+            Ok(()) => Ok(self.kept_apart(State::Open)),
             Err(_) => Err(Stop::Memory),
         }
     }

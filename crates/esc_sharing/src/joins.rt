@@ -1,14 +1,14 @@
 //! The classes of two nodes are joined.
 
-ghost use Rattle.std.specs.Prelude.{◌≡◌, ℕ, ◌<◌, ◌⊎◌, [], ◌∷◌, length, IfErr, Ok, OnOk};
+ghost use Rattle.std.specs.Prelude.{◌≡◌, ℕ, ◌<◌, ◌⊎◌, [], ◌∷◌, length, map, IfErr, Ok, OnOk};
 ghost use Rattle.std.specs.List.{All};
 ghost use Rattle.esc_trail.specs.Undo.{Notes};
-ghost use Rattle.esc_union.specs.Merges.{class_number};
 ghost use Rattle.esc_egraph.specs.Congruence.{EqualWith, IsBroken, IsLeast, IsMet};
 ghost use Rattle.esc_egraph.specs.Graph.{Adds, IsGraph, number_of};
 ghost use Rattle.esc_egraph.specs.GraphUndo.{graph_undo};
 ghost use Rattle.esc_distinct.specs.Groups.{AreBroken};
 ghost use Rattle.esc_sharing.specs.Admitted.{AreEqualBy, AreTwoNumbers};
+ghost use Rattle.esc_sharing.specs.KnownInside.{AreKnownBy};
 ghost use Rattle.esc_sharing.specs.Nodes.{node_term};
 ghost use Rattle.esc_sharing.specs.SettlingInside.{IsUnsettled, Keeps, StepEnds};
 ghost use Rattle.esc_sharing.specs.Shared.{seen};
@@ -22,7 +22,6 @@ use esc_distinct::CarriesGroups;
 use esc_egraph::{CarriesNodes, Node, State};
 use esc_simplex::Stop;
 use esc_trail::{Carries, Trail};
-use esc_union::Partition;
 use std::alloc::AllocError;
 
 impl<T: Theory> Sharing<T> {
@@ -31,31 +30,30 @@ impl<T: Theory> Sharing<T> {
         &mut self,
         a: Node,
         b: Node,
-        known: &mut Partition,
+        known: &mut [(Node, usize)],
         trail: &mut Trail<R>,
     ) -> Result<State, Stop>
         requires unsettled { IsUnsettled (seen T.sound T.admits T.numbers self.old)
-            (class_number known.old.merges) }
-        requires count { known.old.count ≡ length self.old.graph.nodes }
+            (AreKnownBy known.old) }
         requires two { AreTwoNumbers self.old.graph (T.numbers self.old.theory) a b }
         requires equal { AreEqualBy (T.admits self.old.theory) (node_term self.old.graph a)
             (node_term self.old.graph b) }
         ensures ends { StepEnds (seen T.sound T.admits T.numbers self.new)
-            (IsUnsettled (seen T.sound T.admits T.numbers self.new)
-            (class_number known.new.merges)) result }
+            (IsUnsettled (seen T.sound T.admits T.numbers self.new) (AreKnownBy known.new))
+            result }
         ensures fewer { result ≡ Ok State.Open →
             length self.old.graph.merges < length self.new.graph.merges }
-        ensures count { known.new.count ≡ known.old.count }
+        ensures nodes { map (λ entry. entry.0) known.new ≡ map (λ entry. entry.0) known.old }
         ensures keeps { Keeps T.undo
             (part_carried R.carried_node R.carried_group R.carried_share R.carried) T.sound
             T.numbers T.made [] [] trail.old.records trail.new.records self.old self.new }
         ensures stop { IfErr result (λ stop. stop ≡ Stop.Memory) }
     {
         match self.equate(a, b, trail) {
-            Ok(state) => match know(known, a, b) {
-                Ok(()) => Ok(state),
-                Err(_) => Err(Stop::Memory),
-            },
+            Ok(state) => {
+                know(known, a, b);
+                Ok(state)
+            }
             Err(_) => Err(Stop::Memory),
         }
     }

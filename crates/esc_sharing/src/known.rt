@@ -1,48 +1,91 @@
-//! Classes by themselves, apart from a graph.
+//! Which arithmetic nodes a theory knows to be equal.
 
-ghost use Rattle.std.specs.Prelude.{◌≡◌, ◌<◌, ◌⊎◌, [], ◌∷◌, ◌++◌, length, IfOk, OnOk};
+ghost use Rattle.std.specs.Prelude.{◌≡◌, ℕ, ◌+◌, ◌<◌, ◌≤◌, IfOk, IfSome, map, take};
+ghost use Rattle.std.specs.List.{Contains};
+ghost use Rattle.esc_egraph.specs.Graph.{number_of};
+ghost use Rattle.esc_sharing.specs.AddingInside.{WereKnown};
+ghost use Rattle.esc_sharing.specs.KnownInside.{AreKnownBy, AreLabeled, IsRelabeled, relabeled};
+ghost use Rattle.esc_sharing.specs.Nodes.{node_count};
+ghost use Rattle.esc_sharing.specs.Numbers.{AreNumbersOf};
 
-use esc_egraph::{EGraph, Node};
-use esc_union::Partition;
-use std::alloc::{AllocError, Global};
+use crate::sharing::Sharing;
+use crate::theory::Theory;
+use esc_egraph::Node;
+use std::alloc::AllocError;
 
-/// As many nodes as a graph has, in its classes.
-pub(crate) fn classes_of(graph: &EGraph, alloc: Global) -> Result<Partition, AllocError>
-    ensures { IfOk result (λ classes. classes ≡ record {
-      count = length graph.now.nodes;
-      merges = graph.now.merges;
-    }) }
-{
-    let mut classes = alone(graph.count(), alloc)?;
-    let merges = graph.merges();
-    'merges: for place in 0..merges.len() {
-        let (from, into) = merges[place];
-        classes.merge(from, into)?;
+/// The arithmetic nodes, in the order of making, with labels: those with one label are equal.
+pub(crate) type Known = Vec<(Node, usize)>;
+
+impl<T: Theory> Sharing<T> {
+    /// Labels for what is known where so many of the arithmetic nodes were so before: of these the
+    /// ones of one class.
+    pub(crate) fn known_numbers(&self, before: usize) -> Result<Known, AllocError>
+        requires numbers { AreNumbersOf self.now.graph (T.numbers self.now.theory) }
+        ensures labeled { IfOk result (λ v. AreLabeled (T.numbers self.now.theory) v.items) }
+        ensures known { IfOk result (λ v. (a b : ℕ) → AreKnownBy v.items a b
+            → WereKnown (take before (T.numbers self.now.theory)) (number_of self.now.graph) a b) }
+    {
+        let mut known = Vec::new(self.alloc);
+        'numbers: for place in 0..self.theory.number_count() {
+            let node = self.theory.number_at(place);
+            let label = self.label(node, place, before)?;
+            known.push((node, label))?;
+        }
+        known.sort_unstable_by_key(|entry| entry.0.index());
+        Ok(known)
     }
-    Ok(classes)
+
+    /// The number of the node's class, or a number of its own where it was not arithmetic before.
+    fn label(&self, node: Node, place: usize, before: usize) -> Result<usize, AllocError>
+        requires node { node < node_count self.now.graph }
+        ensures old { IfOk result (λ label. place < before
+            → (label ≡ number_of self.now.graph node) × (label < node_count self.now.graph)) }
+        ensures own { IfOk result (λ label. before ≤ place
+            → label ≡ node_count self.now.graph + place) }
+    {
+        if place < before {
+            return Ok(self.graph.class_number(node).index());
+        }
+        match self.graph.count().checked_add(place) {
+            Some(label) => Ok(label),
+            None => Err(AllocError),
+        }
+    }
 }
 
-/// Joins the classes of two nodes, unless they are one.
-pub(crate) fn know(known: &mut Partition, a: Node, b: Node) -> Result<(), AllocError>
-    requires a_is_there { a < known.old.count }
-    requires b_is_there { b < known.old.count }
-    ensures ok { OnOk result ((known.new.merges ≡ known.old.merges)
-        ⊎ (known.new.merges ≡ known.old.merges ++ (a, b) ∷ [])) }
-    ensures count { known.new.count ≡ known.old.count }
+/// Takes two nodes to be equal.
+pub(crate) fn know(known: &mut [(Node, usize)], a: Node, b: Node)
+    ensures { IsRelabeled known.old known.new a b }
 {
-    if known.same(a, b) {
-        return Ok(());
-    }
-    known.merge(a, b)
+    let Some(from) = label_of(known, a) else {
+        return;
+    };
+    let Some(into) = label_of(known, b) else {
+        return;
+    };
+    relabel(known, from, into);
 }
 
-/// So many nodes, each a class by itself.
-fn alone(count: usize, alloc: Global) -> Result<Partition, AllocError>
-    ensures { IfOk result (λ classes. classes ≡ record { count = count; merges = [] }) }
+/// A label of a node.
+fn label_of(known: &[(Node, usize)], a: Node) -> Option<usize>
+    ensures { IfSome result (λ label. Contains known.now (a, label)) }
 {
-    let mut classes = Partition::new(alloc);
-    'nodes: for _ in 0..count {
-        classes.push()?;
+    'entries: for place in 0..known.len() {
+        let entry = known[place];
+        if entry.0 == a {
+            return Some(entry.1);
+        }
     }
-    Ok(classes)
+    None
+}
+
+/// Makes a label another one.
+pub(crate) fn relabel(known: &mut [(Node, usize)], from: usize, into: usize)
+    ensures { known.new ≡ map (relabeled from into) known.old }
+{
+    'entries: for place in 0..known.len() {
+        let entry = known[place];
+        let label = if entry.1 == from { into } else { entry.1 };
+        known[place] = (entry.0, label);
+    }
 }

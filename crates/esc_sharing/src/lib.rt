@@ -1,6 +1,7 @@
 //! A graph of terms and a theory share equalities until neither has one that the other lacks.
 #![tactic(auto)]
 
+mod adding;
 mod arithmetic;
 mod asserting;
 mod classes;
@@ -8,6 +9,8 @@ mod joins;
 mod known;
 mod literal;
 mod missed;
+mod nodes;
+mod numbers;
 mod record;
 mod rounds;
 mod sharing;

@@ -1,7 +1,7 @@
 //! Graph and theory tell each other equalities until neither has one that the other lacks.
 
-ghost use Rattle.std.specs.Prelude.{◌≡◌, [], length, IfErr};
-ghost use Rattle.esc_union.specs.Merges.{class_number};
+ghost use Rattle.std.specs.Prelude.{[], IfErr};
+ghost use Rattle.esc_sharing.specs.KnownInside.{AreKnownBy, AreLabeled};
 ghost use Rattle.esc_sharing.specs.Numbers.{number_terms};
 ghost use Rattle.esc_sharing.specs.SettlingInside.{IsUnsettled, Keeps, StepEnds};
 ghost use Rattle.esc_sharing.specs.Shared.{IsShared, seen};
@@ -12,22 +12,21 @@ use crate::record::CarriesShare;
 use crate::sharing::Sharing;
 use crate::theory::Theory;
 use esc_distinct::CarriesGroups;
-use esc_egraph::{CarriesNodes, State};
+use esc_egraph::{CarriesNodes, Node, State};
 use esc_simplex::Stop;
 use esc_trail::{Carries, Trail};
-use esc_union::Partition;
 
 impl<T: Theory> Sharing<T> {
     /// Tells the theory what the classes join, and joins what it finds equal, until neither has
     /// anything that the other lacks.
     pub(crate) fn settle<R: CarriesNodes + CarriesGroups + CarriesShare + Carries<T::Rec>>(
         &mut self,
-        known: &mut Partition,
+        known: &mut [(Node, usize)],
         trail: &mut Trail<R>,
     ) -> Result<State, Stop>
         requires unsettled { IsUnsettled (seen T.sound T.admits T.numbers self.old)
-            (class_number known.old.merges) }
-        requires count { known.old.count ≡ length self.old.graph.nodes }
+            (AreKnownBy known.old) }
+        requires labeled { AreLabeled (T.numbers self.old.theory) known.old }
         ensures ends { StepEnds (seen T.sound T.admits T.numbers self.new)
             (IsShared (seen T.sound T.admits T.numbers self.new)) result }
         ensures keeps { Keeps T.undo

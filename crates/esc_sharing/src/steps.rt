@@ -1,8 +1,10 @@
 //! A literal that is on the list goes into graph or theory.
 
-ghost use Rattle.std.specs.Prelude.{◌≡◌, [], ◌∷◌, ◌++◌, length, IfErr, OnErr, OnOk};
+ghost use Rattle.std.specs.Prelude.{◌≡◌, ℕ, [], ◌∷◌, ◌++◌, IfErr, OnErr, OnOk};
+ghost use Rattle.esc_union.specs.Merges.{SameClass};
 ghost use Rattle.esc_egraph.specs.Graph.{number_of};
 ghost use Rattle.esc_sharing.specs.AssertingInside.{IsAsserting, IsOrder};
+ghost use Rattle.esc_sharing.specs.KnownInside.{AreKnownBy, AreLabeled};
 ghost use Rattle.esc_sharing.specs.Literals.{sides};
 ghost use Rattle.esc_sharing.specs.Numbers.{arithmetic_among, number_terms, pair_terms};
 ghost use Rattle.esc_sharing.specs.SettlingInside.{IsUnsettled, Keeps, StepEnds};
@@ -18,7 +20,6 @@ use esc_distinct::CarriesGroups;
 use esc_egraph::{CarriesNodes, Node, State};
 use esc_simplex::Stop;
 use esc_trail::{Carries, Trail};
-use esc_union::Partition;
 use std::alloc::AllocError;
 
 impl<T: Theory> Sharing<T> {
@@ -45,12 +46,13 @@ impl<T: Theory> Sharing<T> {
     pub(crate) fn settle_literal<R: CarriesNodes + CarriesGroups + CarriesShare + Carries<T::Rec>>(
         &mut self,
         lit: Lit,
-        known: &mut Partition,
+        known: &mut [(Node, usize)],
         trail: &mut Trail<R>,
     ) -> Result<State, Stop>
         requires asserting { IsAsserting (seen T.sound T.admits T.numbers self.old) lit }
-        requires count { known.old.count ≡ length self.old.graph.nodes }
-        requires merges { known.old.merges ≡ self.old.graph.merges }
+        requires labeled { AreLabeled (T.numbers self.old.theory) known.old }
+        requires known { (a b : ℕ) → AreKnownBy known.old a b
+            → SameClass (number_of self.old.graph) a b }
         ensures ends { StepEnds (seen T.sound T.admits T.numbers self.new)
             (IsShared (seen T.sound T.admits T.numbers self.new)) result }
         ensures keeps { Keeps T.undo
@@ -75,7 +77,7 @@ impl<T: Theory> Sharing<T> {
         requires asserting { IsAsserting (seen T.sound T.admits T.numbers self.old) lit }
         ensures ends { StepEnds (seen T.sound T.admits T.numbers self.new)
             (IsUnsettled (seen T.sound T.admits T.numbers self.new)
-            (number_of self.old.graph)) result }
+            (SameClass (number_of self.old.graph))) result }
         ensures keeps { Keeps T.undo
             (part_carried R.carried_node R.carried_group R.carried_share R.carried) T.sound
             T.numbers T.made [] [] trail.old.records trail.new.records self.old self.new }
@@ -102,7 +104,7 @@ impl<T: Theory> Sharing<T> {
             (Lit.Equal a b) }
         ensures ends { StepEnds (seen T.sound T.admits T.numbers self.new)
             (IsUnsettled (seen T.sound T.admits T.numbers self.new)
-            (number_of self.old.graph)) result }
+            (SameClass (number_of self.old.graph))) result }
         ensures keeps { Keeps T.undo
             (part_carried R.carried_node R.carried_group R.carried_share R.carried) T.sound
             T.numbers T.made [] [] trail.old.records trail.new.records self.old self.new }
@@ -125,7 +127,7 @@ impl<T: Theory> Sharing<T> {
             (Lit.Apart a b) }
         ensures ends { StepEnds (seen T.sound T.admits T.numbers self.new)
             (IsUnsettled (seen T.sound T.admits T.numbers self.new)
-            (number_of self.old.graph)) result }
+            (SameClass (number_of self.old.graph))) result }
         ensures keeps { Keeps T.undo
             (part_carried R.carried_node R.carried_group R.carried_share R.carried) T.sound
             T.numbers T.made [] [] trail.old.records trail.new.records self.old self.new }
@@ -147,7 +149,7 @@ impl<T: Theory> Sharing<T> {
         requires order { IsOrder lit }
         ensures ends { StepEnds (seen T.sound T.admits T.numbers self.new)
             (IsUnsettled (seen T.sound T.admits T.numbers self.new)
-            (number_of self.old.graph)) result }
+            (SameClass (number_of self.old.graph))) result }
         ensures keeps { Keeps T.undo
             (part_carried R.carried_node R.carried_group R.carried_share R.carried) T.sound
             T.numbers T.made [] [] trail.old.records trail.new.records self.old self.new }

@@ -1,19 +1,20 @@
 //! The theory is told what the classes join.
 
-ghost use Rattle.std.specs.Prelude.{◌≡◌, ℕ, ◌<◌, ◌↔◌, ◌⊎◌, [], ◌∷◌, ◌++◌, length, true, false};
-ghost use Rattle.std.specs.Prelude.{IfErr, IfOk, Ok, OnErr, OnOk, slice_index_or};
-ghost use Rattle.std.specs.List.{All, Contains};
-ghost use Rattle.esc_trail.specs.Undo.{Notes};
-ghost use Rattle.esc_union.specs.Merges.{SameClass, class_number};
+ghost use Rattle.std.specs.Prelude.{◌≡◌, ℕ, ◌<◌, [], ◌∷◌, ◌++◌, length, IfErr, IfOk, Ok, OnErr};
+ghost use Rattle.std.specs.Prelude.{OnOk};
+ghost use Rattle.std.specs.List.{All};
 ghost use Rattle.esc_egraph.specs.Graph.{number_of};
-ghost use Rattle.esc_sharing.specs.Numbers.{AreNumbersOf, IsNumber, number_terms};
-ghost use Rattle.esc_sharing.specs.SettlingInside.{AllAgree, IsToldAt, IsUnsettled, Keeps};
-ghost use Rattle.esc_sharing.specs.SettlingInside.{KnowsMore};
-ghost use Rattle.esc_sharing.specs.SettlingInside.{AreNumbersIn, StepEnds};
+ghost use Rattle.esc_sharing.specs.KnownInside.{AreKnownBy, AreLabeled, KnowsMore, label_at};
+ghost use Rattle.esc_sharing.specs.KnownInside.{StartsAt, node_at};
+ghost use Rattle.esc_sharing.specs.Nodes.{node_count};
+ghost use Rattle.esc_sharing.specs.Numbers.{number_terms};
+ghost use Rattle.esc_sharing.specs.SettlingInside.{AllAgree, AreSeated, IsOrder, IsUnsettled};
+ghost use Rattle.esc_sharing.specs.SettlingInside.{Keeps, StepEnds};
 ghost use Rattle.esc_sharing.specs.Shared.{AreToldIn, seen};
-ghost use Rattle.esc_sharing.specs.SharingUndo.{part_carried, sharing_undo};
+ghost use Rattle.esc_sharing.specs.SharingUndo.{part_carried};
 ghost use Rattle.esc_sharing.specs.Stops.{UnlessMemory};
 
+use crate::known::relabel;
 use crate::record::{CarriesShare, ShareRec};
 use crate::sharing::Sharing;
 use crate::theory::Theory;
@@ -21,62 +22,30 @@ use esc_distinct::CarriesGroups;
 use esc_egraph::{CarriesNodes, Node, State};
 use esc_simplex::Stop;
 use esc_trail::{Carries, Trail};
-use esc_union::Partition;
 use std::alloc::AllocError;
 
-impl<T: Theory> Sharing<T> {
-    /// Tells the theory that two nodes of one class are equal, unless it knows that.
-    fn tell<R: CarriesNodes + CarriesGroups + CarriesShare + Carries<T::Rec>>(
-        &mut self,
-        a: Node,
-        b: Node,
-        known: &mut Partition,
-        trail: &mut Trail<R>,
-    ) -> Result<State, Stop>
-        requires unsettled { IsUnsettled (seen T.sound T.admits T.numbers self.old)
-            (class_number known.old.merges) }
-        requires pair { AreToldIn self.old.graph (T.numbers self.old.theory) (a, b) }
-        requires a_is_there { a < known.old.count }
-        requires b_is_there { b < known.old.count }
-        ensures ends { StepEnds (seen T.sound T.admits T.numbers self.new)
-            (IsUnsettled (seen T.sound T.admits T.numbers self.new)
-            (class_number known.new.merges)) result }
-        ensures told { result ≡ Ok State.Open → SameClass (class_number known.new.merges) a b }
-        ensures more { KnowsMore known.old known.new }
-        ensures graph { self.new.graph ≡ self.old.graph }
-        ensures keeps { Keeps T.undo
-            (part_carried R.carried_node R.carried_group R.carried_share R.carried) T.sound
-            T.numbers T.made [] [] trail.old.records trail.new.records self.old self.new }
-        ensures stop { IfErr result (UnlessMemory (T.barred self.new.theory []
-            (number_terms (T.numbers self.old.theory)))) }
-    {
-        if known.same(a, b) {
-            return Ok(State::Open);
-        }
-        let Ok(()) = self.push_told(a, b, trail) else {
-            return Err(Stop::Memory);
-        };
-        match self.theory.told_equal(&self.graph, a, b, trail)? {
-            State::Closed => Ok(State::Closed),
-            State::Open => match known.merge(a, b) {
-                Ok(()) => Ok(State::Open),
-                Err(_) => Err(Stop::Memory),
-            },
-        }
-    }
+/// Two known nodes of one class, by their places among the known ones: the first of the class, and
+/// one that may be told to be equal to it, at its turn.
+#[derive(Clone, Copy)]
+pub(crate) struct Telling {
+    pub(crate) turn: usize,
+    pub(crate) first: usize,
+    pub(crate) later: usize,
+}
 
+impl<T: Theory> Sharing<T> {
     /// Tells the theory all that the classes join and that it does not know.
     pub(crate) fn tell_all<R: CarriesNodes + CarriesGroups + CarriesShare + Carries<T::Rec>>(
         &mut self,
-        known: &mut Partition,
+        known: &mut [(Node, usize)],
         trail: &mut Trail<R>,
     ) -> Result<State, Stop>
         requires unsettled { IsUnsettled (seen T.sound T.admits T.numbers self.old)
-            (class_number known.old.merges) }
-        requires count { known.old.count ≡ length self.old.graph.nodes }
+            (AreKnownBy known.old) }
+        requires labeled { AreLabeled (T.numbers self.old.theory) known.old }
         ensures ends { StepEnds (seen T.sound T.admits T.numbers self.new)
-            (IsUnsettled (seen T.sound T.admits T.numbers self.new)
-            (class_number known.new.merges)) result }
+            (IsUnsettled (seen T.sound T.admits T.numbers self.new) (AreKnownBy known.new))
+            result }
         ensures agree { result ≡ Ok State.Open →
             AllAgree (seen T.sound T.admits T.numbers self.new) }
         ensures more { KnowsMore known.old known.new }
@@ -87,8 +56,12 @@ impl<T: Theory> Sharing<T> {
         ensures stop { IfErr result (UnlessMemory (T.barred self.new.theory []
             (number_terms (T.numbers self.old.theory)))) }
     {
-        'nodes: for index in 0..self.graph.count() {
-            match self.tell_class(Node::new(index), known, trail)? {
+        let Ok(order) = self.telling_order(known) else {
+            return Err(Stop::Memory);
+        };
+        'pairs: for place in 0..order.len() {
+            let telling = order[place];
+            match self.tell(telling.first, telling.later, known, trail)? {
                 State::Open => (),
                 State::Closed => return Ok(State::Closed),
             }
@@ -96,23 +69,25 @@ impl<T: Theory> Sharing<T> {
         Ok(State::Open)
     }
 
-    /// Tells the theory that the arithmetic nodes of one class are equal: the first one with each
-    /// later one.
-    fn tell_class<R: CarriesNodes + CarriesGroups + CarriesShare + Carries<T::Rec>>(
+    /// Tells the theory that two nodes of one class are equal, unless it knows that.
+    fn tell<R: CarriesNodes + CarriesGroups + CarriesShare + Carries<T::Rec>>(
         &mut self,
-        node: Node,
-        known: &mut Partition,
+        first: usize,
+        later: usize,
+        known: &mut [(Node, usize)],
         trail: &mut Trail<R>,
     ) -> Result<State, Stop>
         requires unsettled { IsUnsettled (seen T.sound T.admits T.numbers self.old)
-            (class_number known.old.merges) }
-        requires node { node < length self.old.graph.nodes }
-        requires count { known.old.count ≡ length self.old.graph.nodes }
+            (AreKnownBy known.old) }
+        requires first { first < length known.old }
+        requires later { later < length known.old }
+        requires pair { AreToldIn self.old.graph (T.numbers self.old.theory)
+            (node_at known.old first, node_at known.old later) }
         ensures ends { StepEnds (seen T.sound T.admits T.numbers self.new)
-            (IsUnsettled (seen T.sound T.admits T.numbers self.new)
-            (class_number known.new.merges)) result }
-        ensures told { result ≡ Ok State.Open → IsToldAt
-            (seen T.sound T.admits T.numbers self.new) (class_number known.new.merges) node }
+            (IsUnsettled (seen T.sound T.admits T.numbers self.new) (AreKnownBy known.new))
+            result }
+        ensures told { result ≡ Ok State.Open → label_at known.new first
+            ≡ label_at known.new later }
         ensures more { KnowsMore known.old known.new }
         ensures graph { self.new.graph ≡ self.old.graph }
         ensures keeps { Keeps T.undo
@@ -121,46 +96,86 @@ impl<T: Theory> Sharing<T> {
         ensures stop { IfErr result (UnlessMemory (T.barred self.new.theory []
             (number_terms (T.numbers self.old.theory)))) }
     {
-        let Ok(numbers) = self.numbers_of(node) else {
+        let one = known[first];
+        let other = known[later];
+        if one.1 == other.1 {
+            return Ok(State::Open);
+        }
+        let Ok(()) = self.push_told(one.0, other.0, trail) else {
             return Err(Stop::Memory);
         };
-        'later: for place in 0..numbers.len() {
-            let first = numbers[0];
-            let later = numbers[place];
-            match self.tell(first, later, known, trail)? {
-                State::Open => (),
-                State::Closed => return Ok(State::Closed),
+        match self.theory.told_equal(&self.graph, one.0, other.0, trail)? {
+            State::Closed => Ok(State::Closed),
+            State::Open => {
+                relabel(known, other.1, one.1);
+                Ok(State::Open)
             }
         }
-        Ok(State::Open)
     }
 
-    /// The arithmetic nodes of a node's class, in the order of making.
-    fn numbers_of(&self, node: Node) -> Result<Vec<Node>, AllocError>
-        requires node { node < length self.now.graph.nodes }
-        ensures exact { IfOk result (λ v. AreNumbersIn self.now.graph
-            (T.numbers self.now.theory) node v.items) }
+    /// Each known node with the first one of its class: the classes in the order of their first
+    /// nodes, where there is anything to tell.
+    fn telling_order(&self, known: &[(Node, usize)]) -> Result<Vec<Telling>, AllocError>
+        requires nodes { All (λ entry. entry.0 < node_count self.now.graph) known.now }
+        ensures { IfOk result (λ v. IsOrder self.now.graph known.now v.items) }
     {
-        let mut numbers = self.number_members(node)?;
-        numbers.sort_unstable_by_key(|number| number.index());
-        Ok(numbers)
+        let seats = self.seats(known)?;
+        let mut order = Vec::new(self.alloc);
+        let mut start = 0;
+        'seats: for place in 0..seats.len() {
+            start = class_start(seats.as_slice(), start, place);
+            let first = seats[start].1;
+            let later = seats[place].1;
+            let turn = self.turn(known, first, later);
+            order.push(Telling { turn, first, later })?;
+        }
+        order.sort_by_key(|telling| telling.turn)?;
+        Ok(order)
     }
 
-    /// The arithmetic nodes of a node's class.
-    fn number_members(&self, node: Node) -> Result<Vec<Node>, AllocError>
-        requires node { node < length self.now.graph.nodes }
-        ensures exact { IfOk result (λ v. AreNumbersIn self.now.graph
-            (T.numbers self.now.theory) node v.items) }
+    /// The places of the known nodes, each with the number of its class, side by side for each
+    /// class.
+    fn seats(&self, known: &[(Node, usize)]) -> Result<Vec<(Node, usize)>, AllocError>
+        requires nodes { All (λ entry. entry.0 < node_count self.now.graph) known.now }
+        ensures { IfOk result (λ v. AreSeated self.now.graph known.now v.items) }
     {
-        let mut numbers = Vec::new(self.alloc);
+        let mut seats = Vec::new(self.alloc);
+        'known: for place in 0..known.len() {
+            let entry = known[place];
+            seats.push((self.graph.class_number(entry.0), place))?;
+        }
+        seats.sort_by_key(|seat| seat.0.index())?;
+        Ok(seats)
+    }
+
+    /// When two known nodes of one class are told: by the first node of the class, or at once where
+    /// there is nothing to tell.
+    fn turn(&self, known: &[(Node, usize)], first: usize, later: usize) -> usize
+        requires first { first < length known.now }
+        requires later { later < length known.now }
+        requires nodes { All (λ entry. entry.0 < node_count self.now.graph) known.now }
+    {
+        let one = known[first];
+        let other = known[later];
+        if one.1 == other.1 {
+            return 0;
+        }
+        self.first_made(one.0)
+    }
+
+    /// The number of the first node of a class.
+    fn first_made(&self, node: Node) -> usize
+        requires node { node < node_count self.now.graph }
+    {
         let members = self.graph.class_of(node);
+        let mut least = node.index();
         'members: for place in 0..members.len() {
             let member = members[place];
-            if self.theory.has_node(member) {
-                numbers.push(member)?;
+            if member.index() < least {
+                least = member.index();
             }
         }
-        Ok(numbers)
+        least
     }
 
     /// Adds a pair that is told.
@@ -182,4 +197,15 @@ impl<T: Theory> Sharing<T> {
         trail.note(R::carry_share(ShareRec::Told));
         Ok(())
     }
+}
+
+/// Where the class of a seat starts, where the one before it has a class that starts there.
+fn class_start(seats: &[(Node, usize)], start: usize, place: usize) -> usize
+    requires start { start < length seats.now }
+    requires place { place < length seats.now }
+    ensures { StartsAt seats.now place start result }
+{
+    let first = seats[start];
+    let seat = seats[place];
+    if seat.0 == first.0 { start } else { place }
 }

@@ -1,5 +1,5 @@
 ghost use Rattle.std.specs.Prelude.{◌≡◌, ◌⊎◌, ◌↔◌, ℕ, ◌<◌, List, [], ◌∷◌, OnOk, OnErr, IfErr};
-ghost use Rattle.std.specs.Prelude.{IsTrue};
+ghost use Rattle.std.specs.Prelude.{IsTrue, length};
 ghost use Rattle.std.specs.List.{All, Contains};
 ghost use Rattle.esc_term.specs.declared.term.Term.{Term};
 ghost use Rattle.esc_cover.specs.Assignment.{Assignment, asked};
@@ -11,7 +11,7 @@ ghost use Rattle.esc_sharing.specs.Admitted.{both_gaps};
 ghost use Rattle.esc_sharing.specs.Literals.{AreSides, item_of, sides};
 ghost use Rattle.esc_sharing.specs.Nodes.{node_count, node_term};
 ghost use Rattle.esc_sharing.specs.Numbers.{AddsMade, AreNumbersOf, IsNumber, arithmetic_among};
-ghost use Rattle.esc_sharing.specs.Numbers.{number_terms, pair_terms, with_number};
+ghost use Rattle.esc_sharing.specs.Numbers.{number_node, number_terms, pair_terms, with_number};
 ghost use Rattle.esc_sharing.specs.Stops.{IsNoForm, UnlessMemory};
 
 use crate::literal::Lit;
@@ -36,6 +36,15 @@ pub trait Theory: Undoable {
     // a call that names the first terms, and may make gaps of the second ones, may answer this stop
     // and leave this view
     ghost barred: { Self → List Term → List Term → Stop → Type 0 };
+
+    /// How many arithmetic nodes there are.
+    fn number_count(&self) -> usize
+        ensures { result ≡ length (numbers self.now) };
+
+    /// The arithmetic node at a place of their list.
+    fn number_at(&self, place: usize) -> Node
+        requires place { place < length (numbers self.now) }
+        ensures { result ≡ number_node (numbers self.now) place };
 
     /// Whether the node is arithmetic.
     fn has_node(&self, a: Node) -> bool

@@ -1,7 +1,9 @@
-use Rattle.std.proofs.Common.{[], ◌∷◌, length, ap, sym, ◌∙◌}
+use Rattle.std.proofs.Common.{[], ◌∷◌, sym}
 use Rattle.std.specs.Prelude.{IfErr}
 use Rattle.std.proofs.Common.{subst}
-use Rattle.esc_union.specs.Merges.{Merged}
+use Rattle.esc_union.specs.Merges.{SameClass}
+use Rattle.esc_egraph.specs.Graph.{number_of}
+use Rattle.esc_sharing.specs.KnownInside.{AreKnownBy, AreLabeled}
 use Rattle.esc_sharing.specs.AssertingInside.{IsAsserting}
 use Rattle.esc_sharing.specs.Literals.{sides}
 use Rattle.esc_sharing.specs.Shared.{seen}
@@ -11,6 +13,7 @@ use Rattle.esc_trail.specs.Undo.{Notes}
 use Rattle.esc_sharing.specs.Stops.{UnlessMemory}
 use Rattle.esc_sharing.specs.declared.sharing.Sharing.{Sharing}
 use Rattle.esc_sharing.proofs.Grouping.{step_asserts}
+use Rattle.esc_sharing.proofs.GrownNumbers.{known_same}
 use Rattle.esc_sharing.proofs.LiteralSteps.{push_keeps, pushed_asserting}
 use Rattle.esc_sharing.proofs.SharingNotes.{keeps_nothing, keeps_then, made_nothing}
 use Rattle.esc_sharing.proofs.sharing.Sharing.assert_literal.Goals as goal
@@ -23,15 +26,22 @@ settle_literal-requires-clause-asserting g c =
     c.push_asserted.new.self c.args.lit c.in-Ok-push_asserted.ensures.ok c.requires.shared
     c.requires.sides)
 
-pub settle_literal-requires-clause-count : goal.settle_literal-requires-clause-count
-settle_literal-requires-clause-count g c =
-    ap (λ (m : Merged). m.count) c.in-Ok.ensures
-    ∙ sym (ap (λ (s : Sharing _). length s.graph.nodes) c.in-Ok-push_asserted.ensures.ok)
+pub known_numbers-requires : goal.known_numbers-requires
+known_numbers-requires g c = record { numbers = c.requires.shared.parts.numbers }
 
-pub settle_literal-requires-clause-merges : goal.settle_literal-requires-clause-merges
-settle_literal-requires-clause-merges g c =
-    ap (λ (m : Merged). m.merges) c.in-Ok.ensures
-    ∙ sym (ap (λ (s : Sharing _). s.graph.merges) c.in-Ok-push_asserted.ensures.ok)
+pub settle_literal-requires-clause-labeled : goal.settle_literal-requires-clause-labeled
+settle_literal-requires-clause-labeled g c =
+    subst (λ known. AreLabeled (g.T.Theory.numbers c.push_asserted.new.self.theory) known)
+    (sym c.deref_mut.ensures.value)
+    (subst (λ (s : Sharing _). AreLabeled (g.T.Theory.numbers s.theory) c.in-Ok.known.items)
+    (sym c.in-Ok-push_asserted.ensures.ok) c.in-Ok.ensures.labeled)
+
+pub settle_literal-requires-clause-known : goal.settle_literal-requires-clause-known
+settle_literal-requires-clause-known g c a b h =
+    subst (λ (s : Sharing _). SameClass (number_of s.graph) a b)
+    (sym c.in-Ok-push_asserted.ensures.ok)
+    (known_same _ (number_of c.args.self.now.graph) a b (c.in-Ok.ensures.known a b
+    (subst (λ known. AreKnownBy known a b) c.deref_mut.ensures.value h)))
 
 pub returns-in-Ok-push_asserted-clause-ends : goal.returns-in-Ok-push_asserted-clause-ends
 returns-in-Ok-push_asserted-clause-ends g c =

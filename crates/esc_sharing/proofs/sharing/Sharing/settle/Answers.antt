@@ -1,11 +1,12 @@
 use Rattle.std.proofs.Common.{length, [], ap, subst, sym, ◌∙◌, arith}
 use Rattle.std.specs.Prelude.{Ok}
-use Rattle.esc_union.specs.Merges.{class_number}
 use Rattle.esc_egraph.specs.Graph.{Graph}
 use Rattle.esc_egraph.proofs.Counting.{fewer_merges}
 use Rattle.esc_sharing.specs.Admitted.{NextEnds}
+use Rattle.esc_sharing.specs.KnownInside.{AreKnownBy, AreLabeled}
 use Rattle.esc_sharing.specs.SettlingInside.{IsUnsettled, StepEnds}
 use Rattle.esc_sharing.specs.Shared.{seen}
+use Rattle.esc_sharing.proofs.Labels.{labeled_still}
 use Rattle.esc_sharing.proofs.Settling.{asked_keeps, asked_shared, asked_two, asked_unsettled}
 use Rattle.esc_sharing.proofs.SharingNotes.{keeps_nothing, keeps_then}
 use Rattle.esc_sharing.proofs.ToldPairs.{all_underway}
@@ -15,7 +16,7 @@ use Rattle.esc_sharing.proofs.sharing.Sharing.settle.Goals as goal
 pub rounds-init : goal.rounds-init
 rounds-init g c = record {
   unsettled = c.requires.unsettled;
-  count = c.requires.count;
+  labeled = c.requires.labeled;
   keeps = keeps_nothing g.T.Undoable.undo g.met.T.Undoable.lawful
       g.R.CarriesNodes.carried_node g.R.CarriesGroups.carried_group
       g.R.CarriesShare.carried_share g.R.Carries.carried g.T.Theory.sound
@@ -42,11 +43,11 @@ returns-in-Closed-clause-keeps g c =
 pub returns-in_err-found-clause-ends : goal.returns-in_err-found-clause-ends
 returns-in_err-found-clause-ends g c =
     ends_err _ _ c.from_residual-in_err-found.result c.from_residual-in_err-found.ensures.0
-    (all_underway _ (class_number c.tell_all.new.known.merges)
+    (all_underway _ (AreKnownBy c.tell_all.new.known)
     (asked_unsettled g.T.Undoable.undo g.met.T.Undoable.lawful g.T.Theory.sound
     g.T.Theory.admits g.T.Theory.numbers g.met.T.Theory.same_admits
     g.met.T.Theory.same_numbers c.tell_all.new.self c.next_equal.new.self
-    c.next_equal.ensures.same (class_number c.tell_all.new.known.merges)
+    c.next_equal.ensures.same (AreKnownBy c.tell_all.new.known)
     (subst (StepEnds _ _) (c.in_ok-tell_all.was ∙ ap Ok c.in-Open.is) c.tell_all.ensures.ends)
     c.next_equal.ensures.sound))
 
@@ -75,7 +76,7 @@ returns-in_default-clause-ends g c =
     asked_shared g.T.Undoable.undo g.met.T.Undoable.lawful g.T.Theory.sound
     g.T.Theory.admits g.T.Theory.numbers g.met.T.Theory.same_admits
     g.met.T.Theory.same_numbers c.tell_all.new.self c.next_equal.new.self
-    c.next_equal.ensures.same (class_number c.tell_all.new.known.merges)
+    c.next_equal.ensures.same (AreKnownBy c.tell_all.new.known)
     (record {
       alloc = c.tell_all.new.self.alloc;
       graph = c.tell_all.new.self.graph;
@@ -112,7 +113,7 @@ join-requires-clause-unsettled g c =
     asked_unsettled g.T.Undoable.undo g.met.T.Undoable.lawful g.T.Theory.sound
     g.T.Theory.admits g.T.Theory.numbers g.met.T.Theory.same_admits
     g.met.T.Theory.same_numbers c.tell_all.new.self c.next_equal.new.self
-    c.next_equal.ensures.same (class_number c.tell_all.new.known.merges)
+    c.next_equal.ensures.same (AreKnownBy c.tell_all.new.known)
     (subst (StepEnds _ _) (c.in_ok-tell_all.was ∙ ap Ok c.in-Open.is) c.tell_all.ensures.ends)
     c.next_equal.ensures.sound
 
@@ -155,7 +156,7 @@ pub rounds-smaller : goal.rounds-smaller
 rounds-smaller g c =
     let answer = c.in_ok-join.was ∙ ap Ok c.in-Open-2.is in
     let now : IsUnsettled (seen g.T.Theory.sound g.T.Theory.admits g.T.Theory.numbers
-    c.join.new.self) (class_number c.join.new.known.merges) =
+    c.join.new.self) (AreKnownBy c.join.new.known) =
     subst (StepEnds _ _) answer c.join.ensures.ends in
     let bound = fewer_merges (length c.join.new.self.graph.nodes) c.join.new.self.graph.merges
     now.parts.graph.merged in
@@ -170,9 +171,13 @@ rounds-preserved g c =
     let answer = c.in_ok-join.was ∙ ap Ok c.in-Open-2.is in
     record {
       unsettled = subst (StepEnds _ _) answer c.join.ensures.ends;
-      count = c.join.ensures.count ∙ (c.tell_all.ensures.more.count ∙ (c.rounds.invariant.count
-          ∙ (ap (λ (h : Graph). length h.nodes) (sym c.tell_all.ensures.graph)
-          ∙ ap length (sym c.join.ensures.keeps.nodes))));
+      labeled = subst (λ ns. AreLabeled ns c.join.new.known)
+          (sym (c.join.ensures.keeps.numbers
+          ∙ (sym (g.met.T.Theory.same_numbers c.tell_all.new.self.theory c.next_equal.new.self
+          c.next_equal.ensures.same) ∙ c.tell_all.ensures.keeps.numbers)))
+          (labeled_still (g.T.Theory.numbers c.rounds.self.theory) c.rounds.known
+          c.join.new.known (c.join.ensures.nodes ∙ c.tell_all.ensures.more.nodes)
+          c.rounds.invariant.labeled);
       keeps = keeps_then g.T.Undoable.undo g.met.T.Undoable.lawful g.R.CarriesNodes.carried_node
           g.R.CarriesGroups.carried_group g.R.CarriesShare.carried_share g.R.Carries.carried
           g.T.Theory.sound g.T.Theory.numbers g.T.Theory.made [] [] c.args.trail.now.records

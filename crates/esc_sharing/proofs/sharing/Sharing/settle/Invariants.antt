@@ -1,5 +1,5 @@
-use Rattle.std.proofs.Common.{◌≡◌, ◌-◌, [], length}
-use Rattle.esc_union.specs.Merges.{class_number}
+use Rattle.std.proofs.Common.{◌-◌, [], length}
+use Rattle.esc_sharing.specs.KnownInside.{AreKnownBy, AreLabeled}
 use Rattle.esc_sharing.specs.SettlingInside.{IsUnsettled, Keeps}
 use Rattle.esc_sharing.specs.Shared.{seen}
 use Rattle.esc_sharing.specs.SharingUndo.{part_carried}
@@ -8,8 +8,8 @@ use Rattle.esc_sharing.proofs.sharing.Sharing.settle.Given as goal
 abbrev pub invariant-rounds : goal.invariant-rounds
 invariant-rounds g l = record {
   unsettled : IsUnsettled (seen g.T.Theory.sound g.T.Theory.admits g.T.Theory.numbers l.self)
-      (class_number l.known.merges);
-  count : l.known.count ≡ length l.self.graph.nodes;
+      (AreKnownBy l.known);
+  labeled : AreLabeled (g.T.Theory.numbers l.self.theory) l.known;
   keeps : Keeps g.T.Undoable.undo (part_carried g.R.CarriesNodes.carried_node
       g.R.CarriesGroups.carried_group g.R.CarriesShare.carried_share g.R.Carries.carried)
       g.T.Theory.sound g.T.Theory.numbers g.T.Theory.made [] [] l.fn.trail.records

@@ -1,24 +1,29 @@
-use Rattle.std.proofs.Common.{[], ap, length, sym, subst, ◌∙◌}
+use Rattle.std.proofs.Common.{[], ap, sym, subst, ◌∙◌}
 use Rattle.std.specs.Prelude.{Ok}
-use Rattle.esc_union.specs.Merges.{class_number}
+use Rattle.esc_union.specs.Merges.{SameClass}
+use Rattle.esc_egraph.specs.Graph.{number_of}
+use Rattle.esc_sharing.specs.KnownInside.{AreKnownBy, AreLabeled}
 use Rattle.esc_sharing.specs.Literals.{sides}
 use Rattle.esc_sharing.specs.Numbers.{arithmetic_among, number_terms, pair_terms}
-use Rattle.esc_sharing.specs.SettlingInside.{IsUnsettled, StepEnds}
+use Rattle.esc_sharing.specs.SettlingInside.{StepEnds}
 use Rattle.esc_sharing.specs.Shared.{seen}
 use Rattle.esc_sharing.proofs.LiteralSteps.{stop_by_more}
 use Rattle.esc_sharing.proofs.SharingNotes.{keeps_then}
+use Rattle.esc_sharing.proofs.Whole.{unsettled_fewer}
 use Rattle.esc_sharing.proofs.sharing.Sharing.settle_literal.Goals as goal
 
 pub settle-requires-clause-unsettled : goal.settle-requires-clause-unsettled
 settle-requires-clause-unsettled g c =
-    subst (λ ms. IsUnsettled (seen g.T.Theory.sound g.T.Theory.admits g.T.Theory.numbers
-    c.take_literal.new.self) (class_number ms)) (sym c.requires.merges)
+    unsettled_fewer (seen g.T.Theory.sound g.T.Theory.admits g.T.Theory.numbers
+    c.take_literal.new.self) (SameClass (number_of c.args.self.now.graph))
+    (AreKnownBy c.args.known.now) c.requires.known
     (subst (StepEnds _ _) (c.in_ok-take_literal.was ∙ ap Ok c.in-Open.is)
     c.take_literal.ensures.ends)
 
-pub settle-requires-clause-count : goal.settle-requires-clause-count
-settle-requires-clause-count g c =
-    c.requires.count ∙ ap length (sym c.take_literal.ensures.keeps.nodes)
+pub settle-requires-clause-labeled : goal.settle-requires-clause-labeled
+settle-requires-clause-labeled g c =
+    subst (λ ns. AreLabeled ns c.args.known.now) (sym c.take_literal.ensures.keeps.numbers)
+    c.requires.labeled
 
 pub returns-in-Open-clause-keeps : goal.returns-in-Open-clause-keeps
 returns-in-Open-clause-keeps g c =

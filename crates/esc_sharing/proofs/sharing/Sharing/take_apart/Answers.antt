@@ -1,5 +1,4 @@
 use Rattle.std.proofs.Common.{[], ap}
-use Rattle.std.specs.Prelude.{Ok}
 use Rattle.esc_egraph.specs.Graph.{Graph}
 use Rattle.esc_sharing.proofs.LiteralSteps.{apart_step}
 use Rattle.esc_sharing.proofs.SharingNotes.{keeps_graph}
