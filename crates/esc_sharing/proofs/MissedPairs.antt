@@ -1,15 +1,14 @@
 -- Which nodes are parted, and what setting nodes against each other leaves.
-use Rattle.std.proofs.Common.{◌≡◌, ◌⊎◌, inl, inr, ℕ, ◌+◌, ◌-◌, ◌<◌, ◌≤◌, false, true, List, []}
-use Rattle.std.proofs.Common.{◌∷◌, ◌++◌, length, map, take, drop, get_or, Option, Some, None}
+use Rattle.std.proofs.Common.{◌≡◌, ◌≢◌, ◌⊎◌, inl, inr, ℕ, ◌+◌, ◌<◌, ◌≤◌, false, true, List}
+use Rattle.std.proofs.Common.{◌++◌, length, map, take, drop, set, replicate, length-set, get_or, Option, Some, None}
 use Rattle.std.proofs.Common.{Result, Ok, Err, IfErr, refl, sym, ap, ap₂, ◌∙◌, subst, subst₂, arith}
 use Rattle.std.proofs.Common.{pos, ◌≤ℤ◌}
-use Rattle.std.specs.Prelude.{◌↔◌, Bool}
+use Rattle.std.specs.Prelude.{Bool}
 use Rattle.std.specs.List.{All, Contains}
-use Rattle.std.proofs.lemmas.Bool.{cases_lt}
-use Rattle.std.proofs.lemmas.List.{get_or-drop, get_or_default, length-drop, take_all}
-use Rattle.std.proofs.lemmas.List.{take_more}
-use Rattle.std.proofs.lemmas.List.Elements.{All-contains, All-nil, All-push, All-weaker}
-use Rattle.std.proofs.lemmas.List.Elements.{Contains-append_left, Contains-push}
+use Rattle.std.proofs.lemmas.Bool.{cases_eq, cases_lt}
+use Rattle.std.proofs.lemmas.List.{get_or-replicate, get_or-set_other, get_or-set_same}
+use Rattle.std.proofs.lemmas.List.{append-nil, drop_all, get_or_default, length-replicate, take_all}
+use Rattle.std.proofs.lemmas.List.Elements.{All-contains}
 use Rattle.esc_cover.specs.Assignment.{Assignment, value}
 use Rattle.esc_union.specs.Merges.{SameClass}
 use Rattle.esc_egraph.specs.Graph.{Graph, number_of}
@@ -18,6 +17,7 @@ use Rattle.esc_tableau.specs.Table.{IsSolution}
 use Rattle.esc_simplex.specs.Barred.{IsBarred}
 use Rattle.esc_simplex.specs.Calls.{PartEnds}
 use Rattle.esc_simplex.specs.Senses.{IsPointOf, sense_at, senses_of, sense_value, term_at}
+use Rattle.esc_simplex.specs.Keys.{ArePartedAt, MayMove, key}
 use Rattle.esc_simplex.specs.SimplexUndo.{AreSame}
 use Rattle.esc_simplex.specs.View.{Allows, IsSimplex, numbers_in, restrictions_in}
 use Rattle.esc_simplex.specs.View.{sense_in, senses_in}
@@ -25,17 +25,18 @@ use Rattle.esc_simplex.specs.declared.simplex.Simplex.{Simplex}
 use Rattle.esc_simplex.specs.declared.stop.Parted.{Parted}
 use Rattle.esc_simplex.specs.declared.stop.Parted.TheVariants.{Equal, Different}
 use Rattle.esc_simplex.specs.declared.stop.Stop.{Stop}
+use Rattle.esc_simplex.proofs.KeyLaws.{keys_part}
 use Rattle.esc_simplex.proofs.Kept.{rows_alike}
 use Rattle.esc_simplex.proofs.Undoing.{keeps_lists_both}
 use Rattle.esc_sharing.specs.Admitted.{AgreesOn, ArePartedBy, AreTwoNumbers, NextEnds}
-use Rattle.esc_sharing.specs.ArithmeticInside.{AreChosen, AreMissed, AreParted, ArePartedAmong}
-use Rattle.esc_sharing.specs.ArithmeticInside.{IsPartedFrom, OnlyRows, PairEnds, PairsEnd, RestEnds}
-use Rattle.esc_sharing.specs.ArithmeticInside.{StandsAmong}
+use Rattle.esc_sharing.specs.ArithmeticInside.{AreKeys, AreMissed, AreParted, ArePartedAmong}
+use Rattle.esc_sharing.specs.ArithmeticInside.{IsPartedBehind, MixesKeys, OnlyRows, PairEnds}
+use Rattle.esc_sharing.specs.ArithmeticInside.{PairsEnd, RestEnds, key_at, pair_at}
+use Rattle.esc_sharing.specs.ClassesInside.{AreChosen, StandsAmong}
 use Rattle.esc_sharing.specs.Nodes.{node_term}
 use Rattle.esc_sharing.specs.Numbers.{AreNumbersOf, IsGapOf, IsNumber, number_terms}
 use Rattle.esc_sharing.proofs.BoundNodes.{bound_pair, bound_there, for_bound, is_number}
 use Rattle.esc_sharing.proofs.BoundNodes.{term_of_node}
-use Rattle.esc_sharing.proofs.Lists.{All-each}
 use Rattle.esc_sharing.proofs.Restricting.{numbers_kept, value_at}
 
 -- ---- rows alone changed
@@ -87,7 +88,27 @@ module _ (v w : Simplex) (rows : OnlyRows v w) where
   allowed_back : (x : Assignment) → Allows w x → Allows v x
   allowed_back x = subst (λ ss. All (λ s. pos 0 ≤ℤ sense_value x s) ss) restrictions_kept
 
+  pub keys_still : (g : Graph) (numbers : List (ℕ × ℕ)) (keys : List ℕ)
+      → AreKeys g v numbers keys → AreKeys g w numbers keys
+  keys_still g numbers keys are = record {
+    as_many = are.as_many;
+    part = λ i j a b other apart. let found = are.part i j a b other apart in
+        (found.0, allowed_still found.0 found.1, found.2);
+  }
+
+  pub keys_back : (g : Graph) (numbers : List (ℕ × ℕ)) (keys : List ℕ)
+      → AreKeys g w numbers keys → AreKeys g v numbers keys
+  keys_back g numbers keys are = record {
+    as_many = are.as_many;
+    part = λ i j a b other apart. let found = are.part i j a b other apart in
+        (found.0, allowed_back found.0 found.1, found.2);
+  }
+
   module _ (g : Graph) (a : ℕ) where
+    parted_between : (c d : ℕ) → AreParted g w c d → AreParted g v c d
+    parted_between c d parted apart =
+        let found = parted apart in (found.0, allowed_back found.0 found.1, found.2)
+
     parted_back : (b : ℕ) → AreParted g w a b → AreParted g v a b
     parted_back b parted apart =
         let found = parted apart in (found.0, allowed_back found.0 found.1, found.2)
@@ -103,12 +124,14 @@ module _ (v w : Simplex) (rows : OnlyRows v w) where
     pair_back b (Ok false) ends = parted_back b ends
     pair_back b (Err s) ends = tt
 
-    pub rest_back : (others : List (ℕ × ℕ)) (r : Result (Option ℕ) Stop)
-        → RestEnds g w a others r → RestEnds g v a others r
-    rest_back others (Ok None) ends = All-weaker (λ (p : ℕ × ℕ). AreParted g w a p.0)
-        (λ (p : ℕ × ℕ). AreParted g v a p.0) (λ p. parted_back p.0) others ends
-    rest_back others (Ok (Some b)) ends = missed_back b ends
-    rest_back others (Err s) ends = tt
+    pub rest_back : (numbers : List (ℕ × ℕ)) (place : ℕ) (r : Result (Option ℕ) Stop)
+        → (pair_at numbers place).0 ≡ a → RestEnds g w numbers place r
+        → RestEnds g v numbers place r
+    rest_back numbers place (Ok None) is ends = λ j behind inside.
+        parted_between (pair_at numbers place).0 (pair_at numbers j).0 (ends j behind inside)
+    rest_back numbers place (Ok (Some b)) is ends = subst (λ n. AreMissed g v n b) (sym is)
+        (missed_back b (subst (λ n. AreMissed g w n b) is ends))
+    rest_back numbers place (Err s) is ends = tt
 
   pub numbers_still : (g : Graph) → AreNumbersOf g (numbers_in v) → AreNumbersOf g (numbers_in w)
   numbers_still g are = subst (AreNumbersOf g) (sym (numbers_kept v w rows.keeps)) are
@@ -124,86 +147,80 @@ module _ (v w : Simplex) (rows : OnlyRows v w) where
 
 -- ---- one pair
 
-module _ (g : Graph) (v : Simplex) (h : IsSimplex v) (are : AreNumbersOf g (numbers_in v))
-    (p q : ℕ × ℕ) (first : Contains v.bound p) (second : Contains v.bound q) where
+module _ (g : Graph) (v : Simplex) (h : IsSimplex v) (are : AreNumbersOf g (numbers_in v)) where
   value_of : (a u : ℕ) → Contains v.bound (a, u) → (x : Assignment)
       → sense_value x (sense_in v u) ≡ value x (node_term g a)
   value_of a u bound x = value_at v u (for_bound v a u bound h) x
       ∙ ap (value x) (sym (term_of_node v a u bound g are))
 
-  pub part_shows : (SameClass (number_of g) p.0 q.0 → ⊥) → (r : Result Parted Stop)
-      → PartEnds v p.1 q.1 r → (b : Bool)
-      → ((r ≡ Ok Equal) × (b ≡ true)) ⊎ ((r ≡ Ok Different) × (b ≡ false))
-      → PairEnds g v p.0 q.0 (Ok b)
-  part_shows other r ends b (inl is) =
-      let equal = subst (PartEnds v p.1 q.1) is.0 ends in
-      subst (λ c. PairEnds g v p.0 q.0 (Ok c)) (sym is.1) (record {
-        two = record {
-          first = is_number v p.0 p.1 first;
-          second = is_number v q.0 q.1 second;
-          different = other;
-        };
-        equal = λ x allowed. sym (value_of p.0 p.1 first x) ∙ equal x allowed
-            ∙ value_of q.0 q.1 second x;
-      })
-  part_shows other r ends b (inr is) =
-      let parted = subst (PartEnds v p.1 q.1) is.0 ends in
-      subst (λ c. PairEnds g v p.0 q.0 (Ok c)) (sym is.1) (λ apart. (
-        parted.0,
-        parted.1,
-        λ same. parted.2 (value_of p.0 p.1 first parted.0 ∙ same
-            ∙ sym (value_of q.0 q.1 second parted.0)),
-      ))
+  module _ (p q : ℕ × ℕ) (first : Contains v.bound p) (second : Contains v.bound q) where
+    pub part_shows : (SameClass (number_of g) p.0 q.0 → ⊥) → (r : Result Parted Stop)
+        → PartEnds v p.1 q.1 r → (b : Bool)
+        → ((r ≡ Ok Equal) × (b ≡ true)) ⊎ ((r ≡ Ok Different) × (b ≡ false))
+        → PairEnds g v p.0 q.0 (Ok b)
+    part_shows other r ends b (inl is) =
+        let equal = subst (PartEnds v p.1 q.1) is.0 ends in
+        subst (λ c. PairEnds g v p.0 q.0 (Ok c)) (sym is.1) (record {
+          two = record {
+            first = is_number v p.0 p.1 first;
+            second = is_number v q.0 q.1 second;
+            different = other;
+          };
+          equal = λ x allowed. sym (value_of p.0 p.1 first x) ∙ equal x allowed
+              ∙ value_of q.0 q.1 second x;
+        })
+    part_shows other r ends b (inr is) =
+        let parted = subst (PartEnds v p.1 q.1) is.0 ends in
+        subst (λ c. PairEnds g v p.0 q.0 (Ok c)) (sym is.1) (λ apart. (
+          parted.0,
+          parted.1,
+          λ same. parted.2 (value_of p.0 p.1 first parted.0 ∙ same
+              ∙ sym (value_of q.0 q.1 second parted.0)),
+        ))
 
--- ---- one node with others
+-- two that were read at their places
+pub read_by : (g : Graph) (v : Simplex) (numbers : List (ℕ × ℕ)) (i j : ℕ)
+    → i < length numbers → j < length numbers → (p q : ℕ × ℕ) → p ≡ get_or numbers i p
+    → q ≡ get_or numbers j q → (r : Result Bool Stop) → PairEnds g v p.0 q.0 r
+    → PairEnds g v (pair_at numbers i).0 (pair_at numbers j).0 r
+read_by g v numbers i j a b p q first second r =
+    subst₂ (λ (m n : ℕ × ℕ). PairEnds g v m.0 n.0 r)
+    (first ∙ get_or_default numbers i p (0, 0) a) (second ∙ get_or_default numbers j q (0, 0) b)
 
-module _ (g : Graph) (v : Simplex) (a : ℕ) (others : List (ℕ × ℕ)) where
-  pub rest-starts : IsPartedFrom g v a (take 0 others)
-  rest-starts = All-nil (λ (p : ℕ × ℕ). AreParted g v a p.0)
-
-  pub rest-step : (place : ℕ) (other : ℕ × ℕ) → place < length others
-      → other ≡ get_or others place other → AreParted g v a other.0
-      → IsPartedFrom g v a (take place others) → IsPartedFrom g v a (take (place + 1) others)
-  rest-step place other more read parted before =
-      subst (IsPartedFrom g v a)
-      (sym (take_more others place other more ∙ ap (λ p. take place others ++ p ∷ []) (sym read)))
-      (All-push (λ (p : ℕ × ℕ). AreParted g v a p.0) (take place others) other before parted)
-
-  pub rest-done : (place : ℕ) → length others ≤ place → IsPartedFrom g v a (take place others)
-      → IsPartedFrom g v a others
-  rest-done place all = subst (IsPartedFrom g v a) (take_all place others all)
-
--- ---- each with those behind it
-
--- those behind a place, as a part of the list
-pub rest_is : (numbers : List (ℕ × ℕ)) (n : ℕ)
-    → take (length numbers - n) (drop n numbers) ≡ drop n numbers
-rest_is numbers n = take_all (length numbers - n) (drop n numbers)
-    (omega (arith, length-drop n numbers))
+-- ---- one node with those behind it
 
 module _ (g : Graph) (v : Simplex) (numbers : List (ℕ × ℕ)) where
+  pub behind-starts : (place : ℕ) → IsPartedBehind g v numbers place (place + 1)
+  behind-starts place j behind inside = absurd (omega (arith, behind, inside))
+
+  pub behind-step : (place other : ℕ)
+      → AreParted g v (pair_at numbers place).0 (pair_at numbers other).0
+      → IsPartedBehind g v numbers place other → IsPartedBehind g v numbers place (other + 1)
+  behind-step place other parted before j behind inside = go (cases_lt j other)
+    where
+      go : (j < other) ⊎ (other ≤ j)
+          → AreParted g v (pair_at numbers place).0 (pair_at numbers j).0
+      go (inl earlier) = before j behind earlier
+      go (inr late) =
+          let here : other ≡ j = omega (arith, late, inside) in
+          subst (λ k. AreParted g v (pair_at numbers place).0 (pair_at numbers k).0) here parted
+
   -- the first ones are parted from all behind them
   abbrev pub ArePartedTo : ℕ → Type 0
-  ArePartedTo place = (i : ℕ) (d : ℕ × ℕ) → i < place
-      → IsPartedFrom g v (get_or numbers i d).0 (drop (i + 1) numbers)
+  ArePartedTo place = (i : ℕ) → i < place → IsPartedBehind g v numbers i (length numbers)
 
   pub parted-starts : ArePartedTo 0
-  parted-starts i d none = absurd (omega (arith, none))
+  parted-starts i none = absurd (omega (arith, none))
 
-  pub parted-step : (place : ℕ) (number : ℕ × ℕ) → place < length numbers
-      → number ≡ get_or numbers place number
-      → IsPartedFrom g v number.0 (drop (place + 1) numbers) → ArePartedTo place
-      → ArePartedTo (place + 1)
-  parted-step place number more read parted before i d less = go (cases_lt i place)
+  pub parted-step : (place : ℕ) → IsPartedBehind g v numbers place (length numbers)
+      → ArePartedTo place → ArePartedTo (place + 1)
+  parted-step place parted before i less = go (cases_lt i place)
     where
-      go : (i < place) ⊎ (place ≤ i)
-          → IsPartedFrom g v (get_or numbers i d).0 (drop (i + 1) numbers)
-      go (inl earlier) = before i d earlier
+      go : (i < place) ⊎ (place ≤ i) → IsPartedBehind g v numbers i (length numbers)
+      go (inl earlier) = before i earlier
       go (inr late) =
           let here : place ≡ i = omega (arith, late, less) in
-          subst (λ k. IsPartedFrom g v (get_or numbers k d).0 (drop (k + 1) numbers)) here
-          (subst (λ (n : ℕ × ℕ). IsPartedFrom g v n.0 (drop (place + 1) numbers))
-          (read ∙ get_or_default numbers place number d more) parted)
+          subst (λ k. IsPartedBehind g v numbers k (length numbers)) here parted
 
   turned : (a b : ℕ) → AreParted g v a b → AreParted g v b a
   turned a b h apart =
@@ -212,14 +229,10 @@ module _ (g : Graph) (v : Simplex) (numbers : List (ℕ × ℕ)) where
   ahead : ArePartedTo (length numbers) → (p q : ℕ × ℕ) (there : Contains numbers p)
       (also : Contains numbers q) → there.0 < also.0 → AreParted g v p.0 q.0
   ahead parted p q there also less =
-      let i = there.0 in
-      let k = also.0 - (i + 1) in
-      let inside : k < length (drop (i + 1) numbers) = omega
-      (arith, length-drop (i + 1) numbers, less, also.1) in
-      let place : i + 1 + k ≡ also.0 = omega (arith, less) in
-      subst₂ (λ (m n : ℕ × ℕ). AreParted g v m.0 n.0) there.2
-      (get_or-drop (i + 1) numbers k q ∙ ap (λ n. get_or numbers n q) place ∙ also.2)
-      (parted i p there.1 k q inside)
+      subst₂ (λ (m n : ℕ × ℕ). AreParted g v m.0 n.0)
+      (get_or_default numbers there.0 (0, 0) p there.1 ∙ there.2)
+      (get_or_default numbers also.0 (0, 0) q also.1 ∙ also.2)
+      (parted there.0 there.1 also.0 less also.1)
 
   pub parted-done : ArePartedTo (length numbers) → ArePartedAmong g v numbers
   parted-done parted p q there also =
@@ -235,62 +248,97 @@ module _ (g : Graph) (v : Simplex) (numbers : List (ℕ × ℕ)) where
         ]
       ]
 
--- ---- one for each class
+-- ---- by keys
 
-module _ (g : Graph) (bound numbers : List (ℕ × ℕ)) where
-  -- each of the first numbers has one of its class among the chosen ones
-  pub record AreChosenTo (place : ℕ) (chosen : List (ℕ × ℕ)) : Type 0 where
-    pub among : All (Contains bound) chosen
-    pub each : All (λ pair. StandsAmong g chosen pair.0) (take place numbers)
+module _ (g : Graph) (v : Simplex) (h : IsSimplex v) (are : AreNumbersOf g (numbers_in v))
+    (numbers : List (ℕ × ℕ)) (bound : All (Contains v.bound) numbers) where
+  bound_at : (i : ℕ) → i < length numbers → Contains v.bound (pair_at numbers i)
+  bound_at i inside = bound i (0, 0) inside
 
-  pub chosen-starts : AreChosenTo 0 []
-  chosen-starts = record {
-    among = All-nil (Contains bound);
-    each = All-nil (λ (pair : ℕ × ℕ). StandsAmong g [] pair.0);
+  parted_as : (i j : ℕ) → i < length numbers → j < length numbers
+      → ArePartedAt v (pair_at numbers i).1 (pair_at numbers j).1
+      → AreParted g v (pair_at numbers i).0 (pair_at numbers j).0
+  parted_as i j a b found apart = (
+    found.0,
+    found.1,
+    λ same. found.2 (value_of g v h are (pair_at numbers i).0 (pair_at numbers i).1 (bound_at i a)
+        found.0 ∙ same ∙ sym (value_of g v h are (pair_at numbers j).0 (pair_at numbers j).1
+        (bound_at j b) found.0)),
+  )
+
+  pub keys_mixed : (old new : List ℕ) → length new ≡ length numbers
+      → AreKeys g v numbers old → MixesKeys v numbers old new → AreKeys g v numbers new
+  keys_mixed old new long before mixes = record {
+    as_many = long;
+    part = λ i j a b other. elim (mixes i j a b other) [
+      | inl differed ↦ before.part i j a b differed
+      | inr parted ↦ parted_as i j a b parted
+    ];
   }
 
-  module _ (place : ℕ) (chosen : List (ℕ × ℕ)) (number : ℕ × ℕ) (more : place < length numbers)
-      (read : number ≡ get_or numbers place number) (before : AreChosenTo place chosen) where
-    next : take place numbers ++ number ∷ [] ≡ take (place + 1) numbers
-    next = sym (take_more numbers place number more
-        ∙ ap (λ p. take place numbers ++ p ∷ []) (sym read))
+-- a slice that was written back whole
+pub written_back : {X : Type 0} (old new : List X) (n : ℕ) → length new ≡ length old
+    → n ≡ length old → take n (new ++ drop (length new) old) ≡ new
+written_back old new n same is =
+    ap (λ rest. take n (new ++ rest)) (drop_all (length new) old (omega (arith, same)))
+    ∙ ap (take n) (append-nil new) ∙ take_all n new (omega (arith, is, same))
 
-    pub chosen-known : StandsAmong g chosen number.0 → AreChosenTo (place + 1) chosen
-    chosen-known known = record {
-      among = before.among;
-      each = subst (All (λ (pair : ℕ × ℕ). StandsAmong g chosen pair.0)) next
-          (All-push (λ (pair : ℕ × ℕ). StandsAmong g chosen pair.0) (take place numbers) number
-          before.each known);
-    }
+-- keys that are all one part none
+pub keys-starts : (g : Graph) (v : Simplex) (numbers : List (ℕ × ℕ)) (keys : List ℕ)
+    → keys ≡ replicate (length numbers) 0 → AreKeys g v numbers keys
+keys-starts g v numbers keys is = record {
+  as_many = ap length is ∙ length-replicate (length numbers) 0;
+  part = λ i j a b other. absurd (other (one i a ∙ sym (one j b)));
+}
+  where
+    one : (i : ℕ) → i < length numbers → key_at keys i ≡ 0
+    one i inside = ap (λ ks. get_or ks i 0) is ∙ get_or-replicate (length numbers) i 0 0 inside
 
-    pub chosen-new : Contains bound number → AreChosenTo (place + 1) (chosen ++ number ∷ [])
-    chosen-new there = record {
-      among = All-push (Contains bound) chosen number before.among there;
-      each = subst (All (λ (pair : ℕ × ℕ). StandsAmong g (chosen ++ number ∷ []) pair.0)) next
-          (All-push (λ (pair : ℕ × ℕ). StandsAmong g (chosen ++ number ∷ []) pair.0)
-          (take place numbers) number
-          (All-weaker (λ (pair : ℕ × ℕ). StandsAmong g chosen pair.0)
-          (λ (pair : ℕ × ℕ). StandsAmong g (chosen ++ number ∷ []) pair.0)
-          (λ pair stands. (
-            stands.0,
-            Contains-append_left chosen (number ∷ []) stands.0 stands.1,
-            stands.2,
-          ))
-          (take place numbers) before.each)
-          (number, Contains-push chosen number, refl));
-    }
+module _ (v : Simplex) (numbers : List (ℕ × ℕ)) (columns old : List ℕ) where
+  -- the first keys are mixed, and the others are as they were
+  pub record AreMixedTo (place : ℕ) (keys : List ℕ) : Type 0 where
+    pub as_many : length keys ≡ length numbers
+    pub done : (i : ℕ) → i < place → key_at keys i
+        ≡ key v.tableau columns (key_at old i) (pair_at numbers i).1
+    pub left : (i : ℕ) → place ≤ i → key_at keys i ≡ key_at old i
 
-  pub chosen-done : ((p : ℕ × ℕ) → Contains numbers p ↔ Contains bound p) → (place : ℕ)
-      → length numbers ≤ place → (chosen : List (ℕ × ℕ)) → AreChosenTo place chosen
-      → AreChosen g bound chosen
-  chosen-done same place all chosen so = record {
-    among = so.among;
-    each = All-each (λ (pair : ℕ × ℕ). StandsAmong g chosen pair.0) bound (λ pair h.
-        All-contains (λ (pair : ℕ × ℕ). StandsAmong g chosen pair.0) numbers pair
-        (subst (All (λ (pair : ℕ × ℕ). StandsAmong g chosen pair.0))
-        (take_all place numbers all) so.each)
-        ((same pair).1 h));
+  pub mixed-starts : length old ≡ length numbers → AreMixedTo 0 old
+  mixed-starts long = record {
+    as_many = long;
+    done = λ i none. absurd (omega (arith, none));
+    left = λ i _. refl;
   }
+
+  pub mixed-step : (place : ℕ) (keys : List ℕ) (k : ℕ) → place < length keys
+      → k ≡ key v.tableau columns (key_at keys place) (pair_at numbers place).1
+      → AreMixedTo place keys → AreMixedTo (place + 1) (set keys place k)
+  mixed-step place keys k inside is before = record {
+    as_many = length-set keys place k ∙ before.as_many;
+    done = λ i less. go i (cases_eq i place) less;
+    left = λ i past. get_or-set_other keys place i k 0 (λ e. omega (arith, past, e))
+        ∙ before.left i (omega (arith, past));
+  }
+    where
+      go : (i : ℕ) → (i ≡ place) ⊎ (i ≢ place) → i < place + 1 → key_at (set keys place k) i
+          ≡ key v.tableau columns (key_at old i) (pair_at numbers i).1
+      go i (inr other) less = get_or-set_other keys place i k 0 other
+          ∙ before.done i (omega (arith, less, other))
+      go i (inl e) less =
+          subst (λ n. key_at (set keys place k) n
+          ≡ key v.tableau columns (key_at old n) (pair_at numbers n).1) (sym e)
+          (get_or-set_same keys place k 0 inside ∙ is
+          ∙ ap (λ s. key v.tableau columns s (pair_at numbers place).1)
+          (before.left place (omega arith)))
+
+  pub mixed-done : IsSimplex v → All (Contains v.bound) numbers → MayMove v.tableau columns
+      → (keys : List ℕ) → AreMixedTo (length keys) keys → MixesKeys v numbers old keys
+  mixed-done h bound may keys all i j a b other =
+      keys_part v h columns may (pair_at numbers i).1 (pair_at numbers j).1
+      (for_bound v (pair_at numbers i).0 (pair_at numbers i).1 (bound i (0, 0) a) h)
+      (for_bound v (pair_at numbers j).0 (pair_at numbers j).1 (bound j (0, 0) b) h)
+      (key_at old i) (key_at old j)
+      (λ e. other (all.done i (omega (arith, a, all.as_many)) ∙ e
+      ∙ sym (all.done j (omega (arith, b, all.as_many)))))
 
 -- ---- all arithmetic nodes
 
@@ -325,28 +373,3 @@ module _ (g : Graph) (v : Simplex)
   next_ends (Ok None) ends = all_parted ends
   next_ends (Ok (Some found)) ends = (ends.two, ends.equal)
   next_ends (Err s) ends = tt
-
--- ---- whether one of its class is among them
-
-module _ (g : Graph) (a : ℕ) (numbers : List (ℕ × ℕ)) where
-  -- none of the first ones is of the class
-  abbrev pub NoneStands : ℕ → Type 0
-  NoneStands place = (k : ℕ) (d : ℕ × ℕ) → k < place
-      → SameClass (number_of g) a (get_or numbers k d).0 → ⊥
-
-  pub none_more : (place : ℕ) (number : ℕ × ℕ) → place < length numbers
-      → number ≡ get_or numbers place number → (SameClass (number_of g) a number.0 → ⊥)
-      → NoneStands place → NoneStands (place + 1)
-  none_more place number more read other before k d less = go (cases_lt k place)
-    where
-      go : (k < place) ⊎ (place ≤ k) → SameClass (number_of g) a (get_or numbers k d).0 → ⊥
-      go (inl earlier) same = before k d earlier same
-      go (inr late) same =
-          let here : k ≡ place = omega (arith, late, less) in
-          other (same ∙ ap (λ n. number_of g (get_or numbers n d).0) here
-          ∙ ap (λ (p : ℕ × ℕ). number_of g p.0)
-          (sym (read ∙ get_or_default numbers place number d more)))
-
-  pub none_stands : NoneStands (length numbers) → StandsAmong g numbers a → ⊥
-  none_stands none stands = none stands.1.0 stands.0 stands.1.1
-      (stands.2 ∙ ap (λ (p : ℕ × ℕ). number_of g p.0) (sym stands.1.2))

@@ -1,10 +1,11 @@
 -- How the arithmetic looks for two nodes of one value.
-use Rattle.std.specs.Prelude.{◌≡◌, ℕ, true, false, List, Option, Some, None, Result, Ok, Err}
+use Rattle.std.specs.Prelude.{◌≡◌, ◌≢◌, ◌⊎◌, ℕ, ◌<◌, true, false, List, length, slice_index_or, Option, Some, None, Result, Ok, Err}
 use Rattle.std.specs.Prelude.{Bool}
-use Rattle.std.specs.List.{All, Contains}
+use Rattle.std.specs.List.{Contains}
 use Rattle.esc_union.specs.Merges.{SameClass}
 use Rattle.esc_egraph.specs.Graph.{Graph, number_of}
 use Rattle.esc_simplex.specs.Calls.{KeepsLists}
+use Rattle.esc_simplex.specs.Keys.{ArePartedAt}
 use Rattle.esc_simplex.specs.View.{Allows, IsSimplex, numbers_in}
 use Rattle.esc_simplex.specs.declared.simplex.Simplex.{Simplex}
 use Rattle.esc_simplex.specs.declared.stop.Stop.{Stop}
@@ -17,16 +18,9 @@ pub record OnlyRows (v w : Simplex) : Type 0 where
   pub keeps : KeepsLists v w
   pub restricted : w.restricted ≡ v.restricted
 
--- ---- bound nodes with their unknowns
-
--- a node of this one's class is among them
-abbrev pub StandsAmong : Graph → List (ℕ × ℕ) → ℕ → Type 0
-StandsAmong g pairs a = (p : ℕ × ℕ) × Contains pairs p × SameClass (number_of g) a p.0
-
--- for each bound node one of its class
-pub record AreChosen (g : Graph) (bound pairs : List (ℕ × ℕ)) : Type 0 where
-  pub among : All (Contains bound) pairs
-  pub each : All (λ pair. StandsAmong g pairs pair.0) bound
+-- a bound node with its unknown, by its place
+abbrev pub pair_at : List (ℕ × ℕ) → ℕ → ℕ × ℕ
+pair_at numbers i = slice_index_or numbers i (0, 0)
 
 -- ---- which of them are parted
 
@@ -45,15 +39,16 @@ PairEnds g v a b (Ok true) = AreMissed g v a b
 PairEnds g v a b (Ok false) = AreParted g v a b
 PairEnds g v a b (Err stop) = Unit {0}
 
--- the node is parted from each of these
-abbrev pub IsPartedFrom : Graph → Simplex → ℕ → List (ℕ × ℕ) → Type 0
-IsPartedFrom g v a pairs = All (λ p. AreParted g v a p.0) pairs
+-- the one at the place is parted from those behind it, as far as before the end
+abbrev pub IsPartedBehind : Graph → Simplex → List (ℕ × ℕ) → ℕ → ℕ → Type 0
+IsPartedBehind g v numbers place end = (j : ℕ) → place < j → j < end
+    → AreParted g v (pair_at numbers place).0 (pair_at numbers j).0
 
 -- or missed with one of them
-abbrev pub RestEnds : Graph → Simplex → ℕ → List (ℕ × ℕ) → Result (Option ℕ) Stop → Type 0
-RestEnds g v a pairs (Ok None) = IsPartedFrom g v a pairs
-RestEnds g v a pairs (Ok (Some b)) = AreMissed g v a b
-RestEnds g v a pairs (Err stop) = Unit {0}
+abbrev pub RestEnds : Graph → Simplex → List (ℕ × ℕ) → ℕ → Result (Option ℕ) Stop → Type 0
+RestEnds g v numbers place (Ok None) = IsPartedBehind g v numbers place (length numbers)
+RestEnds g v numbers place (Ok (Some b)) = AreMissed g v (pair_at numbers place).0 b
+RestEnds g v numbers place (Err stop) = Unit {0}
 
 -- any two of these are parted
 abbrev pub ArePartedAmong : Graph → Simplex → List (ℕ × ℕ) → Type 0
@@ -65,3 +60,21 @@ abbrev pub PairsEnd : Graph → Simplex → List (ℕ × ℕ) → Result (Option
 PairsEnd g v pairs (Ok None) = ArePartedAmong g v pairs
 PairsEnd g v pairs (Ok (Some found)) = AreMissed g v found.0 found.1
 PairsEnd g v pairs (Err stop) = Unit {0}
+
+-- ---- keys
+
+abbrev pub key_at : List ℕ → ℕ → ℕ
+key_at keys i = slice_index_or keys i 0
+
+-- those with different keys are parted
+pub record AreKeys (g : Graph) (v : Simplex) (numbers : List (ℕ × ℕ)) (keys : List ℕ)
+    : Type 0 where
+  pub as_many : length keys ≡ length numbers
+  pub part : (i j : ℕ) → i < length numbers → j < length numbers → key_at keys i ≢ key_at keys j
+      → AreParted g v (pair_at numbers i).0 (pair_at numbers j).0
+
+-- those whose keys differ now had different keys, or are parted
+abbrev pub MixesKeys : Simplex → List (ℕ × ℕ) → List ℕ → List ℕ → Type 0
+MixesKeys v numbers old new = (i j : ℕ) → i < length numbers → j < length numbers
+    → key_at new i ≢ key_at new j
+    → (key_at old i ≢ key_at old j) ⊎ ArePartedAt v (pair_at numbers i).1 (pair_at numbers j).1

@@ -4,6 +4,7 @@ pub mod ArithmeticInside
 pub mod ArithmeticLaws
 pub mod AssertingInside
 pub mod Calls
+pub mod ClassesInside
 pub mod KnownInside
 pub mod Literals
 pub mod ModelLaws

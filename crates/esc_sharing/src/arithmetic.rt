@@ -1,23 +1,23 @@
 //! The arithmetic as a theory: nodes are bound to unknowns, and orders restrict their gaps.
 
-ghost use Rattle.std.specs.Prelude.{◌≡◌, ◌↔◌, ℕ, ◌<◌, [], ◌∷◌, IfErr, IfOk, IsTrue};
-ghost use Rattle.std.specs.List.{All, Contains};
+ghost use Rattle.std.specs.Prelude.{◌≡◌, [], ◌∷◌, IfErr};
+ghost use Rattle.std.specs.List.{Contains};
 ghost use Rattle.esc_cover.specs.Assignment.{gap};
 ghost use Rattle.esc_trail.specs.Undo.{Notes};
 ghost use Rattle.esc_simplex.specs.Barred.{IsBarred};
 ghost use Rattle.esc_simplex.specs.SimplexUndo.{simplex_undo};
 ghost use Rattle.esc_simplex.specs.View.{Allows, IsSimplex, numbers_in, senses_in};
 ghost use Rattle.esc_sharing.specs.Admitted.{RestrictEnds};
-ghost use Rattle.esc_sharing.specs.ArithmeticInside.{AreChosen, OnlyRows, PairEnds, PairsEnd};
-ghost use Rattle.esc_sharing.specs.ArithmeticInside.{RestEnds, StandsAmong};
-ghost use Rattle.esc_sharing.specs.Nodes.{node_count, node_term};
+ghost use Rattle.esc_sharing.specs.Nodes.{node_term};
 ghost use Rattle.esc_sharing.specs.Numbers.{AddsMade, AreNumbersOf, IsGapOf, IsNumber};
 ghost use Rattle.esc_sharing.specs.Numbers.{number_terms};
 
+use crate::classes::class_numbers;
 use crate::literal::Lit;
+use crate::missed::missed_pair;
 use crate::theory::Theory;
 use esc_egraph::{EGraph, Node, State};
-use esc_simplex::{Parted, Simplex, SimplexRec, Stop};
+use esc_simplex::{Simplex, SimplexRec, Stop};
 use esc_tableau::Unknown;
 use esc_trail::{Carries, Trail};
 use std::alloc::AllocError;
@@ -155,124 +155,4 @@ fn restrict_gap<R: Carries<SimplexRec>>(
     let below = number_unknown(simplex, lower);
     let unknown = simplex.gap(above, below, strict, trail)?;
     simplex.at_least_zero(unknown, trail)
-}
-
-/// One bound node with its unknown for each class that has one, in the order of making.
-fn class_numbers(simplex: &Simplex, graph: &EGraph) -> Result<Vec<(Node, Unknown)>, AllocError>
-    requires numbers { AreNumbersOf graph.now (numbers_in simplex.now) }
-    ensures { IfOk result (λ v. AreChosen graph.now simplex.now.bound v.items) }
-{
-    let numbers = numbers_in_order(simplex)?;
-    let mut chosen = Vec::new(simplex.allocator());
-    'nodes: for place in 0..numbers.len() {
-        let number = numbers[place];
-        let known = stands_among(graph, &chosen, number.0);
-        if !known {
-            chosen.push(number)?;
-        }
-    }
-    Ok(chosen)
-}
-
-/// The bound nodes with their unknowns, in the order of making.
-fn numbers_in_order(simplex: &Simplex) -> Result<Vec<(Node, Unknown)>, AllocError>
-    ensures { IfOk result (λ v. (p : ℕ × ℕ) → Contains v.items p ↔ Contains simplex.now.bound p) }
-{
-    let mut numbers = Vec::from_slice(simplex.allocator(), simplex.bound_nodes())?;
-    numbers.sort_unstable_by_key(|number| number.0.index());
-    Ok(numbers)
-}
-
-/// Whether a node of this one's class is among these.
-fn stands_among(graph: &EGraph, numbers: &[(Node, Unknown)], a: Node) -> bool
-    requires a { a < node_count graph.now }
-    requires numbers { All (λ p. p.0 < node_count graph.now) numbers.now }
-    ensures { IsTrue result ↔ StandsAmong graph.now numbers.now a }
-{
-    'numbers: for place in 0..numbers.len() {
-        let number = numbers[place];
-        if graph.same(a, number.0) {
-            return true;
-        }
-    }
-    false
-}
-
-/// Two of these that stand in two classes and have one value in all that is admitted.
-fn missed_pair(
-    simplex: &mut Simplex,
-    graph: &EGraph,
-    numbers: &[(Node, Unknown)],
-) -> Result<Option<(Node, Node)>, Stop>
-    requires sound { IsSimplex simplex.old }
-    requires numbers { AreNumbersOf graph.now (numbers_in simplex.old) }
-    requires bound { All (Contains simplex.old.bound) numbers.now }
-    ensures ends { PairsEnd graph.now simplex.old numbers.now result }
-    ensures rows { OnlyRows simplex.old simplex.new }
-    ensures stop { IfErr result (IsBarred simplex.new (λ t. ⊥)
-        (IsGapOf (number_terms (numbers_in simplex.old)))) }
-{
-    'numbers: for place in 0..numbers.len() {
-        let number = &numbers[place];
-        let found = missed_with(simplex, graph, number, &numbers[place + 1..])?;
-        match found {
-            Some(other) => return Ok(Some((number.0, other))),
-            None => (),
-        }
-    }
-    Ok(None)
-}
-
-/// One of the others that stands in another class than the node, and has its value in all that is
-/// admitted.
-fn missed_with(
-    simplex: &mut Simplex,
-    graph: &EGraph,
-    number: &(Node, Unknown),
-    others: &[(Node, Unknown)],
-) -> Result<Option<Node>, Stop>
-    requires sound { IsSimplex simplex.old }
-    requires numbers { AreNumbersOf graph.now (numbers_in simplex.old) }
-    requires number { Contains simplex.old.bound number.now }
-    requires others { All (Contains simplex.old.bound) others.now }
-    ensures ends { RestEnds graph.now simplex.old number.now.0 others.now result }
-    ensures rows { OnlyRows simplex.old simplex.new }
-    ensures stop { IfErr result (IsBarred simplex.new (λ t. ⊥)
-        (IsGapOf (number_terms (numbers_in simplex.old)))) }
-{
-    'others: for place in 0..others.len() {
-        let other = &others[place];
-        let missed = is_missed(simplex, graph, number, other)?;
-        if missed {
-            return Ok(Some(other.0));
-        }
-    }
-    Ok(None)
-}
-
-/// Whether two nodes stand in two classes and have one value in all that is admitted.
-fn is_missed(
-    simplex: &mut Simplex,
-    graph: &EGraph,
-    first: &(Node, Unknown),
-    second: &(Node, Unknown),
-) -> Result<bool, Stop>
-    requires sound { IsSimplex simplex.old }
-    requires numbers { AreNumbersOf graph.now (numbers_in simplex.old) }
-    requires first { Contains simplex.old.bound first.now }
-    requires second { Contains simplex.old.bound second.now }
-    ensures ends { PairEnds graph.now simplex.old first.now.0 second.now.0 result }
-    ensures rows { OnlyRows simplex.old simplex.new }
-    ensures stop { IfErr result (IsBarred simplex.new (λ t. ⊥)
-        (IsGapOf (number_terms (numbers_in simplex.old)))) }
-{
-    let together = graph.same(first.0, second.0);
-    if together {
-        return Ok(false);
-    }
-    let parted = simplex.part(first.1, second.1)?;
-    match parted {
-        Parted::Equal => Ok(true),
-        Parted::Different => Ok(false),
-    }
 }

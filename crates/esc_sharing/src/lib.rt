@@ -4,10 +4,12 @@
 mod adding;
 mod arithmetic;
 mod asserting;
+mod classes;
 mod joins;
 mod known;
 mod laws;
 mod literal;
+mod missed;
 mod nodes;
 mod numbers;
 mod record;

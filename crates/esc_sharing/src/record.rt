@@ -3,8 +3,9 @@
 ghost use Rattle.std.specs.Prelude.{◌≡◌};
 ghost use Rattle.esc_sharing.specs.declared.record.ShareRec.{ShareRec};
 
-use esc_distinct::GroupRec;
-use esc_egraph::EgraphRec;
+use esc_distinct::{CarriesGroups, GroupRec};
+use esc_egraph::{CarriesNodes, EgraphRec};
+use esc_trail::Carries;
 
 /// What takes one change of a sharing's own lists back.
 #[derive(Clone, Copy)]
@@ -30,4 +31,44 @@ pub trait CarriesShare: Copy {
 
     fn carry_share(rec: ShareRec) -> Self
         ensures { result ≡ carried_share rec };
+}
+
+impl<Q: Copy> CarriesNodes for PartRec<Q> {
+    ghost use Rattle.esc_sharing.specs.declared.record.PartRec.TheVariants.{Nodes};
+
+    ghost carried_node = { λ rec. Nodes rec };
+
+    fn carry_node(rec: EgraphRec) -> PartRec<Q> {
+        PartRec::Nodes(rec)
+    }
+}
+
+impl<Q: Copy> CarriesGroups for PartRec<Q> {
+    ghost use Rattle.esc_sharing.specs.declared.record.PartRec.TheVariants.{Groups};
+
+    ghost carried_group = { λ rec. Groups rec };
+
+    fn carry_group(rec: GroupRec) -> PartRec<Q> {
+        PartRec::Groups(rec)
+    }
+}
+
+impl<Q: Copy> CarriesShare for PartRec<Q> {
+    ghost use Rattle.esc_sharing.specs.declared.record.PartRec.TheVariants.{Lists};
+
+    ghost carried_share = { λ rec. Lists rec };
+
+    fn carry_share(rec: ShareRec) -> PartRec<Q> {
+        PartRec::Lists(rec)
+    }
+}
+
+impl<Q: Copy> Carries<Q> for PartRec<Q> {
+    ghost use Rattle.esc_sharing.specs.declared.record.PartRec.TheVariants.{Theory};
+
+    ghost carried = { λ rec. Theory rec };
+
+    fn carry(rec: Q) -> PartRec<Q> {
+        PartRec::Theory(rec)
+    }
 }

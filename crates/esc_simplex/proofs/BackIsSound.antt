@@ -1,5 +1,5 @@
 -- What holds between any two calls holds where a record was taken back.
-use Rattle.std.proofs.Common.{◌≡◌, ◌⊎◌, inl, inr, ℕ, ◌-◌, ◌<◌, ◌≤◌, Bool, false, if◌then◌else◌, List, length, take, map, get_or, sym, ap, subst, ◌∙◌, arith}
+use Rattle.std.proofs.Common.{◌≡◌, ◌⊎◌, inl, inr, ℕ, ◌-◌, ◌<◌, ◌≤◌, Bool, false, if◌then◌else◌, List, [], ◌∷◌, length, take, map, get_or, sym, ap, subst, ◌∙◌, arith}
 use Rattle.std.specs.Prelude.{◌↔◌}
 use Rattle.std.specs.List.{Contains}
 use Rattle.std.proofs.lemmas.Bool.{cases_lt, lt-ltb}
@@ -10,8 +10,9 @@ use Rattle.esc_tableau.specs.Changes.{Frees, with_mark}
 use Rattle.esc_tableau.specs.Table.{IsRestricted, IsTable, size}
 use Rattle.esc_tableau.proofs.ChangeLaws.{IsTable-with_mark}
 use Rattle.esc_tableau.proofs.WithinLaws.{Frees-with_mark}
+use Rattle.esc_trail.specs.Undo.{CanRewind, rewind}
 use Rattle.esc_simplex.specs.Senses.{sense_of, senses_of, term}
-use Rattle.esc_simplex.specs.SimplexUndo.{CanGoBack, freed, newest, simplex_back}
+use Rattle.esc_simplex.specs.SimplexUndo.{CanGoBack, freed, newest, simplex_back, simplex_undo}
 use Rattle.esc_simplex.specs.View.{AreOnce, IsInUse, IsSimplex}
 use Rattle.esc_simplex.specs.declared.record.SimplexRec.{SimplexRec}
 use Rattle.esc_simplex.specs.declared.record.SimplexRec.TheVariants.{Listed, Bound, Restricted}
@@ -180,3 +181,9 @@ back_is_sound v Bound can h = record {
   within = h.within;
 }
 back_is_sound v Restricted can h = freed_sound v h can
+
+pub rewind_is_sound : (v : Simplex) (recs : List SimplexRec) → CanRewind simplex_undo v recs
+    → IsSimplex v → IsSimplex (rewind simplex_undo v recs)
+rewind_is_sound v [] can h = h
+rewind_is_sound v (rec ∷ recs) can h =
+    back_is_sound (rewind simplex_undo v recs) rec can.1 (rewind_is_sound v recs can.0 h)

@@ -17,6 +17,8 @@ pub mod Gapped
 pub mod Gapping
 pub mod Grown
 pub mod Keeping
+pub mod Keyed
+pub mod KeyLaws
 pub mod Kept
 pub mod Lifted
 pub mod Listing

@@ -5,9 +5,11 @@ use Rattle.std.proofs.lemmas.List.{length-map}
 use Rattle.esc_frac.specs.Rational.{ratio, zero_ℚ, ◌+ℚ◌, neg_ℚ, ◌≤ℚ◌}
 use Rattle.esc_frac.proofs.FieldLaws.{+ℚ-neg_ℚ}
 use Rattle.esc_frac.proofs.OrderLaws.{≤ℚ-+ℚ, ≤ℚ_refl, <ℚ-not}
+use Rattle.esc_tableau.specs.Moving.{ArePartedIn}
 use Rattle.esc_tableau.specs.Table.{sample}
 use Rattle.esc_cover.specs.Assignment.{Assignment}
 use Rattle.esc_simplex.specs.Calls.{ExceedShows, IsForTerm}
+use Rattle.esc_simplex.specs.Keys.{ArePartedAt}
 use Rattle.esc_simplex.specs.Senses.{sense_of, sense_value, senses_of}
 use Rattle.esc_simplex.specs.Steps.{ExceedEnds}
 use Rattle.esc_simplex.specs.View.{Allows, IsSimplex, sense_in, senses_in}
@@ -53,6 +55,17 @@ module _ (v : Simplex) (h : IsSimplex v) (u w : ℕ) (upper : IsForTerm v u)
       → IfOk r (ExceedShows v u w)
   exceed_shows (Ok b) ends = shows b ends
   exceed_shows (Err e) ends = tt
+
+  -- at any point within the restrictions where they differ
+  pub parted_in : ArePartedIn v.tableau u w → ArePartedAt v u w
+  parted_in parted =
+      let found = h.rows.sound parted.0 parted.1 in (
+        found.0,
+        allows_from v h parted.0 found.0 found.1 parted.2,
+        λ same. parted.3 (found.1 u upper.1.stands.there
+            ∙ ap (λ z. ratio z found.0.denominator) same
+            ∙ sym (found.1 w lower.1.stands.there)),
+      )
 
   -- at samples that differ
   pub parted_at_sample : sample v.tableau u ≢ sample v.tableau w → (x : Assignment) × Allows v x

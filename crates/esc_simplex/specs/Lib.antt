@@ -1,4 +1,6 @@
 pub mod Senses
+pub mod KeyedInside
+pub mod Keys
 pub mod View
 pub mod SimplexUndo
 pub mod Barred

@@ -12,6 +12,7 @@ ghost use Rattle.esc_simplex.specs.SimplexUndo.{AreSame, simplex_undo};
 ghost use Rattle.esc_simplex.specs.Steps.{RowStops};
 ghost use Rattle.esc_simplex.specs.View.{IsBuiltAt, IsInUse, IsSimplex, sense_in, senses_in};
 
+use crate::entries::is_same;
 use crate::made::Made;
 use crate::maximising::add_row;
 use crate::record::SimplexRec;
@@ -126,11 +127,11 @@ impl Simplex {
         }
     }
 
-    // The first unknown that was made for the term.
+    // An unknown that was made for the term.
     fn find(&self, term: &Term) -> Option<Unknown>
         ensures { FindsTerm self.now.made term.now result }
     {
-        unknown_for(self.made.as_slice(), term)
+        self.made.unknown_for(term)
     }
 
     // A column whose unknown is not in use yet.
@@ -185,7 +186,7 @@ impl Simplex {
     fn is_used(&self, u: Unknown) -> bool
         ensures { IsTrue result ↔ Contains self.now.unknowns u }
     {
-        is_listed(self.unknowns.as_slice(), u)
+        self.unknowns.contains(u)
     }
 
     /// An unknown in use for the entry, which owns the row of these parts.
@@ -308,45 +309,4 @@ pub fn is_opaque(form: &Form, term: &Term) -> bool
         Some(part) => is_same(&part.term, term),
         None => false,
     }
-}
-
-fn is_same(term: &Term, other: &Term) -> bool
-    ensures { IsTrue result ↔ (term.now ≡ other.now) }
-{
-    if *term == *other { true } else { false }
-}
-
-// The first unknown that was made for the term.
-fn unknown_for(made: &[Made], term: &Term) -> Option<Unknown>
-    ensures { FindsTerm made.now term.now result }
-{
-    'made: for place in 0..made.len() {
-        let entry = &made[place];
-        if is_for(entry, term) {
-            return Some(Unknown::numbered(place));
-        }
-    }
-    None
-}
-
-fn is_for(entry: &Made, term: &Term) -> bool
-    ensures { IsTrue result ↔ (entry.now ≡ Made.Term term.now) }
-{
-    match entry {
-        Made::Term(of) => is_same(of, term),
-        Made::Gap { .. } => false,
-    }
-}
-
-/// Whether the unknown is among these.
-pub fn is_listed(unknowns: &[Unknown], u: Unknown) -> bool
-    ensures { IsTrue result ↔ Contains unknowns.now u }
-{
-    'unknowns: for place in 0..unknowns.len() {
-        let unknown = unknowns[place];
-        if unknown.same_as(u) {
-            return true;
-        }
-    }
-    false
 }

@@ -3,14 +3,18 @@
 #![tactic(auto)]
 
 mod adding;
+mod bindings;
+mod entries;
+mod keys;
 mod laws;
 mod made;
 mod maximising;
 mod record;
 mod simplex;
 mod stop;
+mod uses;
 
-pub use laws::value_laws;
+pub use laws::{back_laws, key_laws, value_laws};
 pub use made::Made;
 pub use record::SimplexRec;
 pub use simplex::Simplex;

@@ -13,17 +13,19 @@ ghost use Rattle.esc_simplex.specs.Senses.{gap_of, term as sense_term};
 ghost use Rattle.esc_simplex.specs.SimplexUndo.{AreSame, simplex_undo};
 ghost use Rattle.esc_simplex.specs.View.{IsInUse, IsSimplex, bound_to};
 
-use crate::adding::{form_or_stop, is_listed, is_opaque};
+use crate::adding::{form_or_stop, is_opaque};
+use crate::bindings::Bindings;
+use crate::entries::Entries;
 use crate::made::Made;
 use crate::maximising::{constant_of, difference, exceeds, lift};
 use crate::record::SimplexRec;
 use crate::stop::{Parted, Stop};
+use crate::uses::Uses;
 use esc_egraph::{Node, State};
 use esc_frac::Frac;
 use esc_tableau::{Rows, Tableau, Unknown};
 use esc_term::Term;
 use esc_trail::{Carries, Trail, Undoable};
-use sqlite_items::Items;
 use std::alloc::{AllocError, Global};
 
 /// Unknowns for terms and for gaps of terms, some of them bound to nodes, and those that are
@@ -32,12 +34,12 @@ use std::alloc::{AllocError, Global};
 pub struct Simplex {
     pub(crate) tableau: Tableau,
     // what each unknown in the rows was made for, by its number
-    pub(crate) made: Items<Made>,
+    pub(crate) made: Entries,
     // the unknowns in use
-    pub(crate) unknowns: Items<Unknown>,
+    pub(crate) unknowns: Uses,
     // nodes with their unknowns
-    pub(crate) bound: Items<(Node, Unknown)>,
-    pub(crate) restricted: Items<Unknown>,
+    pub(crate) bound: Bindings,
+    pub(crate) restricted: Uses,
     // how many pivots a maximising may take
     pub(crate) limit: u64,
     pub(crate) alloc: Global,
@@ -84,10 +86,10 @@ impl Simplex {
     {
         Simplex {
             tableau: Tableau::new(alloc),
-            made: Items::new(alloc),
-            unknowns: Items::new(alloc),
-            bound: Items::new(alloc),
-            restricted: Items::new(alloc),
+            made: Entries::new(alloc),
+            unknowns: Uses::new(alloc),
+            bound: Bindings::new(alloc),
+            restricted: Uses::new(alloc),
             limit: pivots,
             alloc,
         }
@@ -97,7 +99,7 @@ impl Simplex {
     pub fn unknown_of(&self, a: Node) -> Option<Unknown>
         ensures { result ≡ bound_to self.now.bound a }
     {
-        unknown_in(self.bound.as_slice(), a)
+        self.bound.unknown_of(a)
     }
 
     /// The bound nodes with their unknowns, in the order of binding.
@@ -276,6 +278,7 @@ impl Simplex {
             (Contains (both_gaps self.old u v))) }
         ensures keeps { KeepsLists self.old self.new }
         ensures restricted { self.new.restricted ≡ self.old.restricted }
+        ensures same { AreSame self.new self.old }
         ensures simplex { IsSimplex self.new }
     {
         if !are_alike(self.tableau.value(u), self.tableau.value(v)) {
@@ -343,7 +346,7 @@ impl Simplex {
     fn is_restricted(&self, u: Unknown) -> bool
         ensures { IsTrue result ↔ Contains self.now.restricted u }
     {
-        is_listed(self.restricted.as_slice(), u)
+        self.restricted.contains(u)
     }
 
     // Brings the unknown to 0 or above, where the restrictions allow it anywhere.
@@ -392,6 +395,7 @@ impl Simplex {
         ensures keeps { KeepsLists self.old self.new }
         ensures restricted { self.new.restricted ≡ self.old.restricted }
         ensures simplex { IsSimplex self.new }
+        ensures same { AreSame self.new self.old }
         ensures ends { IfOk result (ExceedShows self.old upper lower) }
         ensures stop { IfErr result (IsBarred self.new (λ t. ⊥) (λ g. g
             ≡ gap_in self.old upper lower false)) }
@@ -406,21 +410,8 @@ fn are_alike(a: Frac, b: Frac) -> bool
     a == b
 }
 
-// The unknown of the first pair with the node.
-fn unknown_in(bound: &[(Node, Unknown)], a: Node) -> Option<Unknown>
-    ensures { result ≡ bound_to bound.now a }
-{
-    'bound: for place in 0..bound.len() {
-        let (node, unknown) = bound[place];
-        if node == a {
-            return Some(unknown);
-        }
-    }
-    None
-}
-
 // Keeps the first entries alone.
-fn shorten(made: &mut Items<Made>, count: usize)
+fn shorten(made: &mut Entries, count: usize)
     ensures { made.new ≡ take count made.old }
 {
     'made: while made.len() > count {

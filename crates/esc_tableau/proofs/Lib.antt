@@ -9,6 +9,7 @@ pub mod Orders
 pub mod OwnerLaws
 pub mod RuleLaws
 pub mod MoveLaws
+pub mod MovingLaws
 pub mod PeakLaws
 pub mod Signs
 pub mod BoundLaws

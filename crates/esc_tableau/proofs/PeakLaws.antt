@@ -190,7 +190,7 @@ nothing_enters t ok u below low none = record {
 -- ---- no row leaves
 
 -- a row that falls bounds the move, by its owner
-falls_bounds : (t : Table) (ok : IsTable t) (m : Move) (i : ℕ) → i < length t.owners → falls t m i
+pub falls_bounds : (t : Table) (ok : IsTable t) (m : Move) (i : ℕ) → i < length t.owners → falls t m i
     ≡ true → bounding t m (owner t i) ≡ Some i
 falls_bounds t ok m i inside down =
     let here = row_of-owner t ok i inside in

@@ -4,6 +4,7 @@ pub mod Grid
 pub mod IndexInside
 pub mod Laws
 pub mod Listed
+pub mod Moving
 pub mod Rule
 pub mod Run
 pub mod Table

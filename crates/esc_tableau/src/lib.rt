@@ -10,6 +10,7 @@ mod laws;
 mod listed;
 mod lists;
 mod maximising;
+mod moving;
 mod owner;
 mod rule;
 mod solving;

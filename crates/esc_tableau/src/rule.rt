@@ -71,8 +71,8 @@ fn direction(column: usize, restricted: bool, slope: Sign) -> Option<Move>
     }
 }
 
-// Whether an owner with an entry of this sign falls along the move.
-fn falls_along(up: bool, entry: Sign) -> bool
+/// Whether an owner with an entry of this sign falls along the move.
+pub fn falls_along(up: bool, entry: Sign) -> bool
     ensures { result ≡ is_against up entry }
 {
     match entry {
@@ -146,8 +146,8 @@ impl Grid {
         }
     }
 
-    // How fast the unknown rises with that of the column.
-    fn slope(&self, unknown: Unknown, column: usize) -> Frac
+    /// How fast the unknown rises with that of the column.
+    pub fn slope(&self, unknown: Unknown, column: usize) -> Frac
         requires table { IsTable (table_of self.now) }
         requires column { column < length self.now.columns.items }
         ensures { result ≡ slope (table_of self.now) unknown column }

@@ -4,7 +4,8 @@ ghost use Rattle.esc_tableau.specs.Changes.{RowEnds, AddsColumn, AddsRow, DropsR
 ghost use Rattle.esc_tableau.specs.Listed.{tabled, restricted_in};
 ghost use Rattle.esc_rows.specs.Steps.{PivotFits};
 ghost use Rattle.esc_tableau.specs.Table.{IsTable, IsSolution, IsWithin, SameSystem, OwnsRow, OwnsColumn, row_of, column_of, column, entry, pivoted, table, size, sample};
-ghost use Rattle.esc_tableau.specs.Rule.{next};
+ghost use Rattle.esc_tableau.specs.Moving.{AreMoving};
+ghost use Rattle.esc_tableau.specs.Rule.{next, slope};
 ghost use Rattle.esc_tableau.specs.Run.{Ends, PeakHolds};
 
 use crate::changing::Parts;
@@ -75,6 +76,21 @@ impl Tableau {
             → sample self.now (column self.now c) ≡ zero_ℚ }
     {
         self.grid.value(unknown)
+    }
+
+    /// How fast the unknown rises with the owner of a column: the entry of its row there.
+    pub fn slope(&self, unknown: Unknown, column: usize) -> Frac
+        requires { column < length self.now.columns }
+        ensures { result ≡ slope self.now unknown column }
+    {
+        self.grid.slope(unknown, column)
+    }
+
+    /// The columns whose owners can move a little from the sample within the restrictions.
+    pub fn moving(&self) -> Result<Vec<usize>, AllocError>
+        ensures { IfOk result (λ v. AreMoving self.now v.items) }
+    {
+        self.grid.moving(self.alloc)
     }
 
     /// Solves the row of `row` for `column`, which becomes its owner, and takes that unknown out of

@@ -3,6 +3,7 @@ use Rattle.std.specs.List.{Contains}
 use Rattle.esc_tableau.proofs.RunLaws.{err_is}
 use Rattle.esc_simplex.specs.Barred.{IsBarred}
 use Rattle.esc_simplex.specs.Calls.{ExceedShows, both_gaps}
+use Rattle.esc_simplex.specs.SimplexLaws.{simplex_lawful}
 use Rattle.esc_simplex.proofs.Alike.{barred_first, barred_second, below_back, equal_when, for_kept, parted_back}
 use Rattle.esc_simplex.proofs.Parting.{parted_at_sample}
 use Rattle.esc_simplex.proofs.Undoing.{keeps_lists_both}
@@ -72,3 +73,18 @@ returns-clause-ends c =
 pub returns-clause-keeps : goal.returns-clause-keeps
 returns-clause-keeps c = keeps_lists_both c.args.self.now c.exceeds.new.self c.exceeds-2.new.self
     c.exceeds.ensures.keeps c.exceeds-2.ensures.keeps
+
+pub returns-in_err-below-clause-same : goal.returns-in_err-below-clause-same
+returns-in_err-below-clause-same c = simplex_lawful.transitive c.exceeds-2.new.self c.exceeds.new.self
+    c.args.self.now c.exceeds-2.ensures.same c.exceeds.ensures.same
+
+pub returns-then-below-clause-same : goal.returns-then-below-clause-same
+returns-then-below-clause-same c = simplex_lawful.transitive c.exceeds-2.new.self c.exceeds.new.self
+    c.args.self.now c.exceeds-2.ensures.same c.exceeds.ensures.same
+
+pub returns-clause-same : goal.returns-clause-same
+returns-clause-same c = simplex_lawful.transitive c.exceeds-2.new.self c.exceeds.new.self
+    c.args.self.now c.exceeds-2.ensures.same c.exceeds.ensures.same
+
+pub returns-then-not-are_alike-clause-same : goal.returns-then-not-are_alike-clause-same
+returns-then-not-are_alike-clause-same c = simplex_lawful.reflexive c.args.self.now
