@@ -1,0 +1,6 @@
+pub mod Branch
+pub mod Called
+pub mod Due
+pub mod Facts
+pub mod Origins
+pub mod Standing
