@@ -3,6 +3,8 @@
 
 mod chosen;
 mod map_match;
+mod reads;
+mod writes;
 
 pub use chosen::standing_nodes;
 pub use map_match::{MapMatch, MapMatches, map_facts};
