@@ -70,7 +70,8 @@ pub fn standing_nodes(
     depths: &[u64],
 ) -> Result<Vec<Node>, AllocError>
     requires { length depths.now ≡ length graph.now.nodes }
-    ensures { IfOk result (λ standing. StandFor graph.now depths.now standing.items) }
+    ensures stand { IfOk result (λ standing. StandFor graph.now depths.now standing.items) }
+    ensures graph { IsGraph graph.now }
 {
     let leaders = leading_nodes(alloc, graph, depths)?;
     let mut standing = Vec::new(alloc);

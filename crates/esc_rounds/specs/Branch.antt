@@ -1,4 +1,4 @@
--- What a standing says of the live facts and the literals of a branch.
+-- What a standing and draws say of the live facts and the literals of a branch.
 use Rattle.std.specs.Prelude.{◌≡◌, ◌≢◌, ℕ, ◌<◌, Bool, true, false, Option, Some, List, length}
 use Rattle.std.specs.Prelude.{map}
 use Rattle.std.specs.Prelude.{slice_get, slice_index}
@@ -79,8 +79,8 @@ IsDrawn base s (fact.Inst n us ts) (Instance f ns) =
     × (map (term_of s.graph.nodes) ns ≡ ts)
 IsDrawn base s _ _ = ⊥
 
-pub record IsStanding (base : Base) (facts : List Fact) (items : List Item) (s : Standing) :
-    Type 0 where
+pub record IsStanding (base : Base) (facts : List Fact) (items : List Item) (s : Standing)
+    (live : List Draw) : Type 0 where
   pub graph : IsGraph s.graph
   -- the nodes are the active terms, in order
   pub nodes : terms_of s.graph.nodes ≡ active_terms (formulas_of base facts)
@@ -95,4 +95,5 @@ pub record IsStanding (base : Base) (facts : List Fact) (items : List Item) (s :
   pub differ : AllPairs (λ k l. formula_kept base k ≢ formula_kept base l) s.formulas
   -- the literals are the quantified ones, in order
   pub literals : AllZip (IsLiteralOf base s) (filter is_quantified items) s.literals
-  pub live : AllZip (IsDrawn base s) (made_facts facts) s.live
+  -- the draws are those of the live facts besides the ones of the base, in order
+  pub drawn : AllZip (IsDrawn base s) (made_facts facts) live

@@ -1,5 +1,5 @@
 -- Which facts the literals and the matches of triggers call for, and in what order.
-use Rattle.std.specs.Prelude.{◌≡◌, ◌≢◌, ℕ, Some, List, [], ◌∷◌, length, slice_get}
+use Rattle.std.specs.Prelude.{◌≡◌, ◌≢◌, ℕ, ◌<◌, Some, List, [], ◌∷◌, length, slice_get}
 use Rattle.std.specs.List.{All}
 use Rattle.esc_term.specs.declared.term.Term.{Term}
 use Rattle.esc_match.specs.Match.{TriggerMatch}
@@ -26,7 +26,8 @@ pub record CallsWitness (s : Standing) (i f : ℕ) : Type 0 where
   pub existential : literal.holds ≢ formula.universal
 
 -- It is a universal formula that holds, or an existential one that fails. Its trigger of this
--- number matches with the nodes, one for each variable, which stand for their classes.
+-- number matches, by some node, with these nodes, one for each variable, which stand for their
+-- classes.
 pub record CallsInstance (s : Standing) (i k f : ℕ) (nodes matched : List ℕ) : Type 0 where
   pub literal : Literal
   pub formula : Kept
@@ -37,6 +38,7 @@ pub record CallsInstance (s : Standing) (i k f : ℕ) (nodes matched : List ℕ)
   pub many : length nodes ≡ formula.count
   pub stand : All (StandsForClass s.graph s.depths) nodes
   pub match : TriggerMatch s.graph (class_in s.graph nodes) trigger matched
+  pub some : 0 < length matched
 
 -- The place at which a fact is called for: witnesses by their literals, then facts about maps by
 -- their nodes, then instances by their literals, triggers and matches.

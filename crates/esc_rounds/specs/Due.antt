@@ -1,5 +1,5 @@
 -- Which facts are still due, and the list of a round.
-use Rattle.std.specs.Prelude.{◌≡◌, ℕ, ◌+◌, ◌≤◌, ◌<◌, ◌⊎◌, ◌↔◌, List, [], ◌∷◌, ◌++◌, map, max}
+use Rattle.std.specs.Prelude.{◌≡◌, ℕ, ◌+◌, ◌↔◌, Bool, true, nat_le, IsTrue, List, [], ◌∷◌, ◌++◌, map, max}
 use Rattle.std.specs.Prelude.{Any, slice_get, slice_index}
 use Rattle.std.specs.List.{Contains}
 use Rattle.std.specs.Option.{option_map_or}
@@ -35,9 +35,9 @@ abbrev pub classes_of : Graph → Draw → List ℕ
 classes_of g d = map (number_of g) (terms_at g d)
 
 -- a fact of its kind and formula with terms of the same classes is live
-abbrev pub IsLive : Standing → Draw → Type 0
-IsLive s d =
-    Any (λ e. (kind_of e ≡ kind_of d) × (classes_of s.graph e ≡ classes_of s.graph d)) s.live
+abbrev pub IsLive : Graph → List Draw → Draw → Type 0
+IsLive g live d =
+    Any (λ e. (kind_of e ≡ kind_of d) × (classes_of g e ≡ classes_of g d)) live
 
 -- ---- depth
 
@@ -51,24 +51,25 @@ depth_of s (Map (map.Read w j)) = 1 + max (slice_index s.depths w) (slice_index 
 depth_of s (Instance f ns) = 1 + greatest (depth_of_formula s f ∷ map (slice_index s.depths) ns)
 
 -- a witness is as deep as its formula, which lies within the limit
-abbrev pub IsWithin : Standing → ℕ → Draw → Type 0
-IsWithin s limit (Witness f) = Unit {0}
-IsWithin s limit d = depth_of s d ≤ limit
+abbrev pub is_within : Standing → ℕ → Draw → Bool
+is_within s limit (Witness f) = true
+is_within s limit d = nat_le (depth_of s d) limit
 
 -- ---- due
 
 -- a fact that is called for, is not live for congruent terms, and lies within the limit
-pub record IsDue (s : Standing) (limit : ℕ) (d : Draw) : Type 0 where
+pub record IsDue (s : Standing) (live : List Draw) (limit : ℕ) (d : Draw) : Type 0 where
   pub place : List ℕ
   pub called : CalledAt s d place
-  pub absent : IsLive s d → ⊥
-  pub within : IsWithin s limit d
+  pub absent : IsLive s.graph live d → ⊥
+  pub within : IsTrue (is_within s limit d)
 
 -- the list has exactly the facts that are due, each once, in the order of their first places
-pub record IsRound (s : Standing) (limit : ℕ) (list : List Draw) : Type 0 where
-  pub exact : (d : Draw) → Contains list d ↔ IsDue s limit d
+pub record IsRound (s : Standing) (live : List Draw) (limit : ℕ) (list : List Draw) : Type 0
+    where
+  pub exact : (d : Draw) → Contains list d ↔ IsDue s live limit d
   pub ordered : IsInOrder (CalledAt s) list
 
 -- nothing is due
-abbrev pub Saturated : Standing → ℕ → Type 0
-Saturated s limit = (d : Draw) → IsDue s limit d → ⊥
+abbrev pub Saturated : Standing → List Draw → ℕ → Type 0
+Saturated s live limit = (d : Draw) → IsDue s live limit d → ⊥

@@ -1,8 +1,8 @@
 //! The facts of draws.
 
-ghost use Rattle.std.specs.Prelude.{◌≡◌, ◌<◌, length, IfOk, IsSome, slice_get};
-ghost use Rattle.std.specs.List.{All};
+ghost use Rattle.std.specs.Prelude.{◌≡◌, IfOk};
 ghost use Rattle.esc_rounds.specs.Facts.{fact_of};
+ghost use Rattle.esc_rounds.specs.Standing.{IsDrawable};
 
 use crate::draw::Draw;
 use crate::kept::Kept;
@@ -18,6 +18,7 @@ pub fn fact_of(
     formulas: &[Kept],
     draw: &Draw,
 ) -> Result<Fact, AllocError>
+    requires { IsDrawable graph.now formulas.now draw.now }
     ensures { IfOk result (λ fact. fact ≡ fact_of graph.now formulas.now draw.now) }
 {
     Err(AllocError)

@@ -1,7 +1,7 @@
 //! Kinds of facts.
 
 /// The kind of a fact, with the place of its quantified formula.
-#[derive(Clone, Copy)]
+#[derive(Clone, Copy, PartialEq, Eq)]
 pub enum Kind {
     Witness(u64),
     Write,
