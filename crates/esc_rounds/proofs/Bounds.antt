@@ -1,13 +1,13 @@
 -- How a list goes from one kind of fact to the next.
 use Rattle.std.proofs.Common.{◌≡◌, ◌≢◌, ℕ, zero, suc, ◌+◌, ◌<◌, ◌≤◌, ◌⊎◌, inl, inr, Bool, true, false}
-use Rattle.std.proofs.Common.{not, if◌then◌else◌, IsTrue, List, [], ◌∷◌, ◌++◌, length, map, Some}
+use Rattle.std.proofs.Common.{if◌then◌else◌, List, [], ◌∷◌, length, map, Some}
 use Rattle.std.proofs.Common.{refl, ap, sym, subst, ◌∙◌, arith, true≢false}
 use Rattle.std.specs.Prelude.{slice_get}
-use Rattle.std.specs.List.{All, AllPairs, Contains}
+use Rattle.std.specs.List.{Contains}
 use Rattle.std.specs.Option.{option_map_or}
 use Rattle.esc_term.proofs.Members.{Contains-cases, Contains-here, Contains-none}
 use Rattle.esc_match.specs.Order.{IsBefore, Precedes}
-use Rattle.esc_match.proofs.Orders.{Contains-map, Contains-of_map, InOrder, in_order-map}
+use Rattle.esc_match.proofs.Orders.{Contains-map, Contains-of_map, in_order-map}
 use Rattle.esc_match.proofs.Orders.{in_order-weaker, in_order-pairs}
 use Rattle.esc_maps.specs.MapMatches.{AreMapMatches, place_of_match}
 use Rattle.esc_maps.specs.declared.map_match.MapMatch.{MapMatch}
@@ -15,8 +15,8 @@ use Rattle.esc_maps.specs.declared.map_match.MapMatch.TheVariants as map_match
 use Rattle.esc_maps.specs.Chosen.{StandsForClass}
 use Rattle.std.proofs.lemmas.Bool.{cases_eq}
 use Rattle.std.proofs.lemmas.List.Elements.{All-weaker}
-use Rattle.esc_rounds.specs.Called.{CalledAt, CallsWitness, IsLiteral}
-use Rattle.esc_rounds.specs.Due.{IsDue, IsLive, IsRound, classes_of, is_within, kind_of}
+use Rattle.esc_rounds.specs.Called.{CalledAt, IsLiteral}
+use Rattle.esc_rounds.specs.Due.{IsRound, classes_of, kind_of}
 use Rattle.esc_rounds.specs.KeyInside.{key_of}
 use Rattle.esc_rounds.specs.ListingInside.{AreKeysOf, IsListedTo, Listed, same_bool}
 use Rattle.esc_rounds.specs.ListingInside.{universal_at, witnesses_of}
@@ -96,9 +96,11 @@ module _ (s : Standing) where
           let place : 0 ∷ i ∷ q ≡ 0 ∷ c.0 ∷ [] = c.2 in
           let i_is : i ≡ c.0 = cc in
           let same = same_literal s i c.0 f literal c.1.literal formula c.1.formula there kept i_is
-          c.1.is in
-          (same.0, λ e. c.1.existential (ap (λ (l : Literal). l.holds) same.1
-          ∙ (e ∙ sym (ap (λ (k : Kept). k.universal) same.2))))
+          c.1.is in (
+            same.0,
+            λ e. c.1.existential (ap (λ (l : Literal). l.holds) same.1
+                ∙ (e ∙ sym (ap (λ (k : Kept). k.universal) same.2))),
+          )
 
       go : (b : Bool) → same_bool literal.holds (universal_at s literal.formula) ≡ b
           → AreCalledIn s (0 ∷ []) i (if b then [] else Witness literal.formula ∷ [])
@@ -117,13 +119,20 @@ module _ (s : Standing) where
               let place : 0 ∷ i ∷ q ≡ 2 ∷ c.0 ∷ c.1 ∷ c.2 = c.4 in cc
       go false e = record {
         from = λ d c. elim (Contains-cases (Witness literal.formula) [] d c) [
-          | inl same ↦ subst (λ x. (q : List ℕ) × CalledAt s x (0 ∷ i ∷ q)) same ([], (i, record {
-              literal = literal;
-              formula = formula;
-              is = record { there = there; formula_is = refl; kept = kept };
-              existential = λ f. same_bool-false literal.holds (universal_at s literal.formula) e
-                  (f ∙ sym at);
-            }, refl))
+          | inl same ↦ subst (λ x. (q : List ℕ) × CalledAt s x (0 ∷ i ∷ q)) same (
+            [],
+            (
+              i,
+              record {
+                literal = literal;
+                formula = formula;
+                is = record { there = there; formula_is = refl; kept = kept };
+                existential = λ f. same_bool-false literal.holds (universal_at s literal.formula) e
+                    (f ∙ sym at);
+              },
+              refl,
+            ),
+          )
           | inr none ↦ absurd (Contains-none d none)
         ];
         all = has;
@@ -189,10 +198,14 @@ module _ (s : Standing) where
     ordered = in_order-map (Precedes (λ d q. CalledAt s d (1 ∷ q))) Map found
         (in_order-weaker (λ a b. IsBefore (place_of_match a) (place_of_match b))
         (λ a b. Precedes (λ d q. CalledAt s d (1 ∷ q)) (Map a) (Map b)) found
-        (λ a b ca cb before. (place_of_match a, ((are.exact a).0 ca, refl), λ q at.
-        let place : 1 ∷ q ≡ 1 ∷ place_of_match b = at.1 in
-        let q_is : place_of_match b ≡ q = cc in
-        subst (IsBefore (place_of_match a)) q_is before))
+        (λ a b ca cb before. (
+          place_of_match a,
+          ((are.exact a).0 ca, refl),
+          λ q at.
+              let place : 1 ∷ q ≡ 1 ∷ place_of_match b = at.1 in
+              let q_is : place_of_match b ≡ q = cc in
+              subst (IsBefore (place_of_match a)) q_is before,
+        ))
         (in_order-from_pairs (λ a b. IsBefore (place_of_match a) (place_of_match b)) found
         are.ordered));
   }
@@ -218,8 +231,20 @@ module _ (s : Standing) where
   instance_or_less (Map m) p c =
       inr (λ n ns l. subst (λ q. Less q (n ∷ ns)) (sym c.1) (inl (omega (arith, l))))
   instance_or_less (Instance f ns) p c =
-      inl (c.0, c.1, c.2, c.4, (c.3.literal, c.3.formula, f, c.3.is, c.3.universal,
-      get-there c.3.formula.triggers c.1 c.3.trigger c.3.numbered))
+      inl (
+        c.0,
+        c.1,
+        c.2,
+        c.4,
+        (
+          c.3.literal,
+          c.3.formula,
+          f,
+          c.3.is,
+          c.3.universal,
+          get-there c.3.formula.triggers c.1 c.3.trigger c.3.numbered,
+        ),
+      )
 
   -- two bounds part the places alike where they part those of instances alike
   instances_same : (live : List Key) (limit a b : ℕ) (xs ys : List ℕ) (now : Listed) → 2 ≤ a
@@ -351,17 +376,28 @@ module _ (s : Standing) where
           record {
             place = h.0.0;
             called = h.0.1;
-            absent = λ any. h.1 ((are (key_of s.graph d)).1 (any.1, (any.0, any.2, any.3),
-                key_is any.1 d any.4.0 any.4.1));
+            absent = λ any. h.1 ((are (key_of s.graph d)).1 (
+              any.1,
+              (any.0, any.2, any.3),
+              key_is any.1 d any.4.0 any.4.1,
+            ));
             within = h.2;
           },
       λ due. (is.exact d).1 (
-        (due.place, due.called, less-before due.place (3 ∷ [])
-        (last due.place (called_place s d due.place due.called))),
+        (
+          due.place,
+          due.called,
+          less-before due.place (3 ∷ [])
+              (last due.place (called_place s d due.place due.called)),
+        ),
         λ c. due.absent (
-          let h = (are (key_of s.graph d)).0 c in
-          (h.1.0, h.0, h.1.1, h.1.2,
-          (ap (λ (k : Key). k.kind) h.2, ap (λ (k : Key). k.classes) h.2))),
+            let h = (are (key_of s.graph d)).0 c in (
+              h.1.0,
+              h.0,
+              h.1.1,
+              h.1.2,
+              (ap (λ (k : Key). k.kind) h.2, ap (λ (k : Key). k.classes) h.2),
+            )),
         due.within,
       ),
     );

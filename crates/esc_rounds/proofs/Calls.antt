@@ -1,29 +1,24 @@
 -- Places at which facts are called for.
-use Rattle.std.proofs.Common.{◌≡◌, ℕ, zero, suc, ◌+◌, ◌<◌, ◌≤◌, ◌⊎◌, inl, inr, List, [], ◌∷◌, ◌++◌, length}
+use Rattle.std.proofs.Common.{◌≡◌, ℕ, zero, suc, ◌<◌, ◌≤◌, ◌⊎◌, inl, inr, List, [], ◌∷◌, ◌++◌, length}
 use Rattle.std.proofs.Common.{get_or, map, Some, refl, ap, sym, subst, ◌∙◌, arith}
 use Rattle.std.specs.Prelude.{slice_get}
-use Rattle.std.specs.List.{All, Contains}
+use Rattle.std.specs.List.{All}
 use Rattle.std.proofs.lemmas.List.Elements.{All-head, All-tail}
 use Rattle.esc_nodes.specs.Nodes.{Shape, shape_at}
-use Rattle.esc_egraph.specs.Congruence.{AllSame, AreAlike}
+use Rattle.esc_egraph.specs.Congruence.{AllSame}
 use Rattle.esc_egraph.specs.Graph.{Graph, number_of}
-use Rattle.esc_match.specs.Order.{IsBefore}
 use Rattle.esc_maps.specs.Chosen.{StandsForClass}
-use Rattle.esc_maps.specs.Maps.{AreAlikeWrites, IsWrite, StandsForWrites}
-use Rattle.esc_maps.specs.declared.map_match.MapMatch.{MapMatch}
+use Rattle.esc_maps.specs.Maps.{IsWrite, StandsForWrites}
 use Rattle.esc_maps.specs.declared.map_match.MapMatch.TheVariants as map_match
 use Rattle.esc_maps.proofs.Leading.{stands_once, writes_once}
-use Rattle.esc_rounds.specs.Called.{CalledAt, CallsInstance, CallsWitness, IsLiteral}
+use Rattle.esc_rounds.specs.Called.{CalledAt, IsLiteral}
 use Rattle.esc_rounds.specs.Due.{classes_of, kind_of}
-use Rattle.esc_rounds.specs.KeyInside.{key_of}
 use Rattle.esc_rounds.specs.Standing.{Standing}
 use Rattle.esc_rounds.specs.declared.draw.Draw.{Draw}
 use Rattle.esc_rounds.specs.declared.draw.Draw.TheVariants.{Witness, Map, Instance}
 use Rattle.esc_rounds.specs.declared.kept.Kept.{Kept}
 use Rattle.esc_rounds.specs.declared.kept.Literal.{Literal}
 use Rattle.esc_rounds.specs.declared.key.Key.{Key}
-use Rattle.esc_rounds.specs.declared.kind.Kind.{Kind}
-use Rattle.esc_rounds.specs.declared.kind.Kind.TheVariants as kind
 use Rattle.esc_rounds.proofs.Groups.{Fits, KeysDiffer}
 use Rattle.esc_rounds.proofs.Places.{Less}
 

@@ -1,19 +1,19 @@
 -- How a list grows by the draws that are called for at places behind one front.
-use Rattle.std.proofs.Common.{◌≡◌, ℕ, ◌+◌, ◌<◌, ◌≤◌, ◌↔◌, ◌⊎◌, inl, inr, Bool, true, false, not, IsTrue}
+use Rattle.std.proofs.Common.{◌≡◌, ℕ, ◌+◌, ◌≤◌, ◌↔◌, ◌⊎◌, inl, inr, Bool, true, false, not, IsTrue}
 use Rattle.std.proofs.Common.{◌&&◌, if◌then◌else◌, List, [], ◌∷◌, ◌++◌, length, map, refl, ap, sym}
 use Rattle.std.proofs.Common.{subst, ◌∙◌, arith, append-nil, true≢false}
-use Rattle.std.specs.List.{Contains, fold, list_any}
+use Rattle.std.specs.List.{Contains}
 use Rattle.std.proofs.lemmas.List.{append_assoc, map-append}
 use Rattle.std.proofs.lemmas.List.Elements.{Contains-append_left, Contains-append_right}
 use Rattle.std.proofs.lemmas.List.Elements.{Contains-push, Contains-push_cases}
 use Rattle.std.proofs.lemmas.Map.Views.{Contains-from_any, list_any-from_Contains}
 use Rattle.esc_term.proofs.Members.{Contains-cases, Contains-here, Contains-none}
-use Rattle.esc_match.specs.Order.{IsBefore, Precedes}
+use Rattle.esc_match.specs.Order.{Precedes}
 use Rattle.esc_match.proofs.Orders.{Contains-map, Contains-of_map, InOrder, in_order-across}
 use Rattle.esc_match.proofs.Orders.{in_order-append}
 use Rattle.esc_rounds.specs.Called.{CalledAt}
 use Rattle.esc_rounds.specs.Due.{is_within}
-use Rattle.esc_rounds.specs.KeyInside.{key_of, same_key, same_key-is, same_key-equivalence}
+use Rattle.esc_rounds.specs.KeyInside.{key_of, same_key-is, same_key-equivalence}
 use Rattle.esc_rounds.specs.ListingInside.{CalledBefore, IsListedTo, Listed, has_key, pushed}
 use Rattle.esc_rounds.specs.ListingInside.{with_all_due, with_due}
 use Rattle.esc_rounds.specs.Standing.{Standing}
@@ -45,11 +45,26 @@ pub listed_same : (s : Standing) (live : List Key) (limit : ℕ) (bound next : L
 listed_same s live limit bound next now to from is = record {
   exact = λ d. (
     λ c.
-        let h = (is.exact d).0 c in
-        ((h.0.0, h.0.1, less-before h.0.0 next
-        (to d h.0.0 h.0.1 (before-less h.0.0 bound h.0.2))), h.1, h.2),
-    λ h. (is.exact d).1 ((h.0.0, h.0.1, less-before h.0.0 bound
-        (from d h.0.0 h.0.1 (before-less h.0.0 next h.0.2))), h.1, h.2),
+        let h = (is.exact d).0 c in (
+          (
+            h.0.0,
+            h.0.1,
+            less-before h.0.0 next
+                (to d h.0.0 h.0.1 (before-less h.0.0 bound h.0.2)),
+          ),
+          h.1,
+          h.2,
+        ),
+    λ h. (is.exact d).1 (
+      (
+        h.0.0,
+        h.0.1,
+        less-before h.0.0 bound
+            (from d h.0.0 h.0.1 (before-less h.0.0 next h.0.2)),
+      ),
+      h.1,
+      h.2,
+    ),
   );
   ordered = is.ordered;
   keyed = is.keyed;
@@ -86,10 +101,13 @@ module _ (s : Standing) (live : List Key) (limit : ℕ) (front : List ℕ) (n : 
     skipped : (Keeps x → Contains now.list x) → IsGrown (done ++ x ∷ []) now
     skipped has = record {
       exact = λ d. (
-        λ c. let h = (grown.exact d).0 c in (elim h.0 [
-          | inl before ↦ inl before
-          | inr in_done ↦ inr (Contains-append_left done (x ∷ []) d in_done)
-        ], h.1),
+        λ c. let h = (grown.exact d).0 c in (
+          elim h.0 [
+            | inl before ↦ inl before
+            | inr in_done ↦ inr (Contains-append_left done (x ∷ []) d in_done)
+          ],
+          h.1,
+        ),
         λ h. elim h.0 [
           | inl before ↦ (grown.exact d).1 (inl before, h.1)
           | inr among ↦ elim (Contains-push_cases done x d among) [
@@ -115,49 +133,64 @@ module _ (s : Standing) (live : List Key) (limit : ℕ) (front : List ℕ) (n : 
         → Precedes (CalledAt s) d x
     precedes keeps absent d c =
         let late = λ (q : List ℕ) (at : CalledAt s x q) (less : Less q (front ++ n ∷ [])).
-            absent ((grown.exact x).1
-            (inl (q, at, less-before q (front ++ n ∷ []) less), keeps)) in
+        absent ((grown.exact x).1
+        (inl (q, at, less-before q (front ++ n ∷ []) less), keeps)) in
         elim ((grown.exact d).0 c).0 [
-          | inl before ↦ (before.0, before.1, λ q at. elim (fits x q at) [
-            | inl long ↦ less-before before.0 q
-                (less_through before.0 (front ++ n ∷ []) q
-                (before-less before.0 (front ++ n ∷ []) before.2) (late q at) long)
-            | inr less ↦ absurd (late q at less)
-          ])
+          | inl before ↦ (
+            before.0,
+            before.1,
+            λ q at. elim (fits x q at) [
+              | inl long ↦ less-before before.0 q
+                  (less_through before.0 (front ++ n ∷ []) q
+                  (before-less before.0 (front ++ n ∷ []) before.2) (late q at) long)
+              | inr less ↦ absurd (late q at less)
+            ],
+          )
           | inr in_done ↦
-              let first = order d in_done in
-              (front ++ n ∷ first.0, first.1, λ q at.
-              elim (less_or_not q (front ++ (n + 1) ∷ [])) [
-                | inl under ↦ elim (less_next front n q under) [
-                  | inl less ↦ absurd (late q at less)
-                  | inr (rest, is) ↦
-                      let behind : Less (front ++ n ∷ first.0) (front ++ n ∷ rest) =
-                      less_behind front (n ∷ first.0) (n ∷ rest)
-                      (inr (refl, before-less first.0 rest
-                      (first.2 rest (subst (CalledAt s x) is at)))) in
-                      less-before (front ++ n ∷ first.0) q
-                      (subst (Less (front ++ n ∷ first.0)) (sym is) behind)
-                ]
-                | inr beyond ↦ elim (fits x q at) [
-                  | inl long ↦ less-before (front ++ n ∷ first.0) q
-                      (less_through (front ++ n ∷ first.0) (front ++ (n + 1) ∷ []) q
-                      (less_at front n (n + 1) first.0 [] (omega arith)) beyond
-                      (subst (λ k. k ≤ length q) (next_length front n (n + 1)) long))
-                  | inr less ↦ absurd (late q at less)
-                ]
-              ])
+              let first = order d in_done in (
+                front ++ n ∷ first.0,
+                first.1,
+                λ q at.
+                    elim (less_or_not q (front ++ (n + 1) ∷ [])) [
+                      | inl under ↦ elim (less_next front n q under) [
+                        | inl less ↦ absurd (late q at less)
+                        | inr (rest, is) ↦
+                            let behind : Less (front ++ n ∷ first.0) (front ++ n ∷ rest) =
+                            less_behind front (n ∷ first.0) (n ∷ rest)
+                            (inr (
+                              refl,
+                              before-less first.0 rest
+                                  (first.2 rest (subst (CalledAt s x) is at)),
+                            )) in
+                            less-before (front ++ n ∷ first.0) q
+                            (subst (Less (front ++ n ∷ first.0)) (sym is) behind)
+                      ]
+                      | inr beyond ↦ elim (fits x q at) [
+                        | inl long ↦ less-before (front ++ n ∷ first.0) q
+                            (less_through (front ++ n ∷ first.0) (front ++ (n + 1) ∷ []) q
+                            (less_at front n (n + 1) first.0 [] (omega arith)) beyond
+                            (subst (λ k. k ≤ length q) (next_length front n (n + 1)) long))
+                        | inr less ↦ absurd (late q at less)
+                      ]
+                    ],
+              )
         ]
 
     listed : Keeps x → (Contains now.list x → ⊥) → IsGrown (done ++ x ∷ []) (pushed s now x)
     listed keeps absent = record {
       exact = λ d. (
         λ c. elim (Contains-push_cases now.list x d c) [
-          | inl old ↦ let h = (grown.exact d).0 old in (elim h.0 [
+          | inl old ↦ let h = (grown.exact d).0 old in (
+            elim h.0 [
               | inl before ↦ inl before
               | inr in_done ↦ inr (Contains-append_left done (x ∷ []) d in_done)
-            ], h.1)
-          | inr e ↦ (inr (subst (Contains (done ++ x ∷ [])) e (Contains-push done x)),
-              subst Keeps e keeps)
+            ],
+            h.1,
+          )
+          | inr e ↦ (
+            inr (subst (Contains (done ++ x ∷ [])) e (Contains-push done x)),
+            subst Keeps e keeps,
+          )
         ],
         λ h. elim h.0 [
           | inl before ↦ Contains-append_left now.list (x ∷ []) d
@@ -243,16 +276,26 @@ module _ (s : Standing) (live : List Key) (limit : ℕ) (front : List ℕ) (n : 
       }) in record {
         exact = λ d. (
           λ c.
-              let h = (grown.exact d).0 c in
-              (elim h.0 [
-                | inl before ↦ (before.0, before.1, less-before before.0 (front ++ (n + 1) ∷ [])
-                    (less_grown front n before.0
-                    (before-less before.0 (front ++ n ∷ []) before.2)))
-                | inr among ↦
-                    let q = are.from d among in
-                    (front ++ n ∷ q.0, q.1, less-before (front ++ n ∷ q.0) (front ++ (n + 1) ∷ [])
-                    (less_at front n (n + 1) q.0 [] (omega arith)))
-              ], h.1.0, h.1.1),
+              let h = (grown.exact d).0 c in (
+                elim h.0 [
+                  | inl before ↦ (
+                    before.0,
+                    before.1,
+                    less-before before.0 (front ++ (n + 1) ∷ [])
+                        (less_grown front n before.0
+                        (before-less before.0 (front ++ n ∷ []) before.2)),
+                  )
+                  | inr among ↦
+                      let q = are.from d among in (
+                        front ++ n ∷ q.0,
+                        q.1,
+                        less-before (front ++ n ∷ q.0) (front ++ (n + 1) ∷ [])
+                            (less_at front n (n + 1) q.0 [] (omega arith)),
+                      )
+                ],
+                h.1.0,
+                h.1.1,
+              ),
           λ h. (grown.exact d).1 (
             elim (less_next front n h.0.0 (before-less h.0.0 (front ++ (n + 1) ∷ []) h.0.2)) [
               | inl less ↦ inl (h.0.0, h.0.1, less-before h.0.0 (front ++ n ∷ []) less)

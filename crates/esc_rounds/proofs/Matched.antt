@@ -1,24 +1,23 @@
 -- The instances of the matches of one trigger.
-use Rattle.std.proofs.Common.{◌≡◌, ℕ, zero, suc, ◌+◌, ◌<◌, inl, inr, true, IsTrue, List, [], ◌∷◌}
-use Rattle.std.proofs.Common.{◌++◌, length, get_or, map, Some, refl, ap, sym, subst, ◌∙◌, arith}
+use Rattle.std.proofs.Common.{◌≡◌, ℕ, suc, ◌<◌, true, IsTrue, List, [], ◌∷◌}
+use Rattle.std.proofs.Common.{length, get_or, map, Some, refl, ap, sym, subst, ◌∙◌, arith}
 use Rattle.std.specs.Prelude.{slice_get, slice_index}
 use Rattle.std.specs.List.{All, AllPairs, Any, Contains}
 use Rattle.std.proofs.lemmas.List.{get_or-map, get_or_default, length-map}
 use Rattle.std.proofs.lemmas.List.Elements.{All-contains, All-map, All-weaker}
 use Rattle.esc_term.specs.declared.term.Term.{Term}
-use Rattle.esc_term.proofs.Members.{Contains-here, Contains-later}
 use Rattle.esc_egraph.specs.Congruence.{AllSame}
-use Rattle.esc_egraph.specs.Graph.{Graph, number_of}
+use Rattle.esc_egraph.specs.Graph.{number_of}
 use Rattle.esc_match.specs.Match.{TriggerMatch}
 use Rattle.esc_match.specs.Matches.{AreMatches, WantedMatch, class_in}
-use Rattle.esc_match.specs.Order.{IsBefore, Precedes}
+use Rattle.esc_match.specs.Order.{Precedes}
 use Rattle.esc_match.specs.declared.substitution.Substitution.{Substitution}
 use Rattle.esc_match.proofs.Coarser.{matches_are_congruent}
 use Rattle.esc_match.proofs.Orders.{Contains-map, Contains-of_map, InOrder, in_order-map}
 use Rattle.esc_match.proofs.Orders.{in_order-weaker}
 use Rattle.esc_maps.specs.Chosen.{StandFor, StandsForClass}
 use Rattle.esc_maps.specs.MapMatches.{place_of_match}
-use Rattle.esc_rounds.specs.Called.{CalledAt, CallsInstance, IsLiteral}
+use Rattle.esc_rounds.specs.Called.{CalledAt, IsLiteral}
 use Rattle.esc_rounds.specs.ListingInside.{instance_at}
 use Rattle.esc_rounds.specs.Standing.{Standing}
 use Rattle.esc_rounds.specs.declared.draw.Draw.{Draw}
@@ -109,19 +108,25 @@ module _ (s : Standing) (standing : List ℕ) (stand : StandFor s.graph s.depths
 
     call_of : (m : Substitution) (matched : List ℕ) → IsMatch m.nodes matched
         → At (instance_at f standing m) matched
-    call_of m matched match = (i, k, matched, record {
-      literal = literal;
-      formula = formula;
-      is = is;
-      universal = universal;
-      trigger = trigger;
-      numbered = numbered;
-      many = length-map m.nodes (slice_index standing) ∙ match.many;
-      stand = stood_stand m.nodes match.there;
-      match = matches_are_congruent s.graph trigger m.nodes (stood m.nodes) matched
-          (stood_same m.nodes match.there) match.match;
-      some = let l = match.wanted.2 in omega (arith, l);
-    }, refl)
+    call_of m matched match = (
+      i,
+      k,
+      matched,
+      record {
+        literal = literal;
+        formula = formula;
+        is = is;
+        universal = universal;
+        trigger = trigger;
+        numbered = numbered;
+        many = length-map m.nodes (slice_index standing) ∙ match.many;
+        stand = stood_stand m.nodes match.there;
+        match = matches_are_congruent s.graph trigger m.nodes (stood m.nodes) matched
+            (stood_same m.nodes match.there) match.match;
+        some = let l = match.wanted.2 in omega (arith, l);
+      },
+      refl,
+    )
 
     match_of : (g : ℕ) (ns q : List ℕ) → At (Instance g ns) q
         → (g ≡ f) × IsMatch ns q × All (StandsForClass s.graph s.depths) ns
@@ -141,17 +146,20 @@ module _ (s : Standing) (standing : List ℕ) (stand : StandFor s.graph s.depths
         let triggers_is : calls.formula.triggers ≡ formula.triggers =
         ap (λ (x : Kept). x.triggers) formula_is in
         let trigger_is : calls.trigger ≡ trigger = cc in
-        let count_is : calls.formula.count ≡ formula.count = ap (λ (x : Kept). x.count) formula_is in
-        (f_is, record {
-          many = calls.many ∙ count_is;
-          there = All-weaker (StandsForClass s.graph s.depths) IsThere (λ n stands. stands.there) ns
-              calls.stand;
-          match = subst (λ m. TriggerMatch s.graph (class_in s.graph ns) trigger m) (sym q_is)
-              (subst (λ t. TriggerMatch s.graph (class_in s.graph ns) t c.2) trigger_is
-              calls.match);
-          wanted = subst (Any (λ n. IsTrue true)) (sym q_is)
-              (0, get_or c.2 0 0, calls.some, get_or_default c.2 0 (get_or c.2 0 0) 0 calls.some, refl);
-        }, calls.stand)
+        let count_is : calls.formula.count ≡ formula.count = ap (λ (x : Kept). x.count) formula_is in (
+          f_is,
+          record {
+            many = calls.many ∙ count_is;
+            there = All-weaker (StandsForClass s.graph s.depths) IsThere (λ n stands. stands.there) ns
+                calls.stand;
+            match = subst (λ m. TriggerMatch s.graph (class_in s.graph ns) trigger m) (sym q_is)
+                (subst (λ t. TriggerMatch s.graph (class_in s.graph ns) t c.2) trigger_is
+                calls.match);
+            wanted = subst (Any (λ n. IsTrue true)) (sym q_is)
+                (0, get_or c.2 0 0, calls.some, get_or_default c.2 0 (get_or c.2 0 0) 0 calls.some, refl);
+          },
+          calls.stand,
+        )
 
     module _ (found : List Substitution) (are : AreMatches s.graph formula.count trigger (λ n. true)
         (map (λ m. m.nodes) found)) where
@@ -172,17 +180,21 @@ module _ (s : Standing) (standing : List ℕ) (stand : StandFor s.graph s.depths
         ordered = in_order-map (Precedes At) (instance_at f standing) found
             (in_order-weaker (λ a b. Precedes IsMatch a.nodes b.nodes)
             (λ a b. Precedes At (instance_at f standing a) (instance_at f standing b)) found
-            (λ a b ca cb first. (first.0, call_of a first.0 first.1, λ q at.
-            let there = (sound_at b cb).1.there in
-            let match = match_of f (stood b.nodes) q at in
-            first.2 q (record {
-              many = (sound_at b cb).1.many;
-              there = there;
-              match = matches_are_congruent s.graph trigger (stood b.nodes) b.nodes q
-                  (same_back (number_of s.graph) b.nodes (stood b.nodes) (stood_same b.nodes there))
-                  match.1.match;
-              wanted = match.1.wanted;
-            })))
+            (λ a b ca cb first. (
+              first.0,
+              call_of a first.0 first.1,
+              λ q at.
+                  let there = (sound_at b cb).1.there in
+                  let match = match_of f (stood b.nodes) q at in
+                  first.2 q (record {
+                    many = (sound_at b cb).1.many;
+                    there = there;
+                    match = matches_are_congruent s.graph trigger (stood b.nodes) b.nodes q
+                        (same_back (number_of s.graph) b.nodes (stood b.nodes) (stood_same b.nodes there))
+                        match.1.match;
+                    wanted = match.1.wanted;
+                  }),
+            ))
             (in_order-of_map (Precedes IsMatch) (λ (x : Substitution). x.nodes) found
             (in_order-from_pairs (Precedes IsMatch) (map (λ (x : Substitution). x.nodes) found)
             are.ordered)));

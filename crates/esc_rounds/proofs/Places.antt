@@ -79,8 +79,11 @@ less_through (p ∷ ps) (b ∷ bs) (q ∷ qs) (inr (e, rest)) not long =
     elim (cases_lt q b) [
       | inl below ↦ absurd (not (inl below))
       | inr ge ↦ elim (cases_eq q b) [
-        | inl same ↦ inr (e ∙ sym same, less_through ps bs qs rest (λ h. not (inr (same, h)))
-            (omega (arith, long)))
+        | inl same ↦ inr (
+          e ∙ sym same,
+          less_through ps bs qs rest (λ h. not (inr (same, h)))
+              (omega (arith, long)),
+        )
         | inr ne ↦ inl (omega (arith, e, ge, ne))
       ]
     ]

@@ -1,30 +1,28 @@
 -- What each step of a round does to the list.
-use Rattle.std.proofs.Common.{◌≡◌, ◌≢◌, ℕ, zero, suc, ◌+◌, ◌<◌, ◌↔◌, inl, inr, Bool, true, false, not}
+use Rattle.std.proofs.Common.{◌≡◌, ◌≢◌, ℕ, ◌+◌, ◌<◌, inl, inr, Bool, true, false, not}
 use Rattle.std.proofs.Common.{IsTrue, if◌then◌else◌, List, [], ◌∷◌, ◌++◌, length, get_or, map, take}
 use Rattle.std.proofs.Common.{Some, refl, ap, sym, subst, ◌∙◌, arith, true≢false}
-use Rattle.std.specs.Prelude.{slice_get, slice_index}
-use Rattle.std.specs.List.{All, Contains, list_all, list_any}
+use Rattle.std.specs.Prelude.{slice_get}
+use Rattle.std.specs.List.{All, Contains, list_all}
 use Rattle.std.specs.Option.{option_map_or}
-use Rattle.std.proofs.lemmas.List.{get_or_default, take_more}
-use Rattle.std.proofs.lemmas.List.Elements.{All-contains, All-get_or, Contains-append_left}
+use Rattle.std.proofs.lemmas.List.{take_more}
+use Rattle.std.proofs.lemmas.List.Elements.{All-contains, Contains-append_left}
 use Rattle.std.proofs.lemmas.List.Elements.{Contains-get_or, Contains-push, Contains-push_cases}
 use Rattle.std.proofs.lemmas.Map.Views.{Contains-from_any}
 use Rattle.std.proofs.lemmas.Option.{slice_get-get_or}
 use Rattle.esc_term.specs.declared.term.Term.{Term}
 use Rattle.esc_cover.proofs.TestLemmas.{all_at}
-use Rattle.esc_nodes.specs.Nodes.{shape_at}
-use Rattle.esc_egraph.specs.Graph.{Graph, IsGraph}
+use Rattle.esc_egraph.specs.Graph.{Graph}
 use Rattle.esc_match.specs.Matches.{AreMatches, WantedMatch}
 use Rattle.esc_match.proofs.Orders.{Contains-map}
 use Rattle.esc_match.specs.declared.substitution.Substitution.{Substitution}
 use Rattle.esc_trigger.specs.Laws.{is_trigger}
 use Rattle.esc_maps.specs.Chosen.{StandFor}
 use Rattle.esc_maps.specs.declared.map_match.MapMatch.TheVariants as map_match
-use Rattle.esc_rounds.specs.Called.{IsLiteral}
-use Rattle.esc_rounds.specs.KeyInside.{key_of, same_key, same_key-is}
+use Rattle.esc_rounds.specs.KeyInside.{key_of, same_key-is}
 use Rattle.esc_rounds.specs.ListingInside.{AreKeysOf, IsListedTo, IsTriggerDone, Listed, count_at}
 use Rattle.esc_rounds.specs.ListingInside.{has_key, instance_at, with_all_due, witnesses_of}
-use Rattle.esc_rounds.specs.Standing.{AreThere, IsDrawable, IsReady, Standing}
+use Rattle.esc_rounds.specs.Standing.{AreThere, IsDrawable, Standing}
 use Rattle.esc_rounds.specs.declared.draw.Draw.{Draw}
 use Rattle.esc_rounds.specs.declared.draw.Draw.TheVariants.{Witness, Map, Instance}
 use Rattle.esc_rounds.specs.declared.key.Key.{Key}
@@ -109,45 +107,45 @@ module _ (g : Graph) (live : List Draw) (i : ℕ) (d : Draw) (keys now : List Ke
 -- ---- steps
 
 module _ (s : Standing) (live its : List Key) (limit : ℕ) (same : its ≡ live) (now next : Listed)
-    where
-  pub listed_step : (front : List ℕ) (n : ℕ) (draws : List Draw) → Fits s (front ++ n ∷ [])
-      → AreCalledIn s front n draws → next ≡ with_all_due s its limit now draws
-      → IsListedTo s live limit (front ++ n ∷ []) now
-      → IsListedTo s live limit (front ++ (n + 1) ∷ []) next
-  listed_step front n draws fits are is listed =
-      subst (IsListedTo s live limit (front ++ (n + 1) ∷ []))
-      (sym (is ∙ ap (λ keys. with_all_due s keys limit now draws) same))
-      (listed_group s live limit front n (keys_differ s) fits draws now are listed)
+  where
+    pub listed_step : (front : List ℕ) (n : ℕ) (draws : List Draw) → Fits s (front ++ n ∷ [])
+        → AreCalledIn s front n draws → next ≡ with_all_due s its limit now draws
+        → IsListedTo s live limit (front ++ n ∷ []) now
+        → IsListedTo s live limit (front ++ (n + 1) ∷ []) next
+    listed_step front n draws fits are is listed =
+        subst (IsListedTo s live limit (front ++ (n + 1) ∷ []))
+        (sym (is ∙ ap (λ keys. with_all_due s keys limit now draws) same))
+        (listed_group s live limit front n (keys_differ s) fits draws now are listed)
 
-  pub witness_step : (i : ℕ) (d : Literal) → i < length s.literals
-      → All (λ l. l.formula < length s.formulas) s.literals
-      → next ≡ with_all_due s its limit now (witnesses_of s (get_or s.literals i d))
-      → IsListedTo s live limit (0 ∷ i ∷ []) now → IsListedTo s live limit (0 ∷ (i + 1) ∷ []) next
-  witness_step i d l below is listed =
-      let literal : Literal = get_or s.literals i d in
-      let formula = get-some s.formulas literal.formula (below i d l) in
-      listed_step (0 ∷ []) i (witnesses_of s literal) (fits_two s 0 i)
-      (witness_called s i literal formula.0 (slice_get-get_or s.literals i d l) formula.1) is listed
+    pub witness_step : (i : ℕ) (d : Literal) → i < length s.literals
+        → All (λ l. l.formula < length s.formulas) s.literals
+        → next ≡ with_all_due s its limit now (witnesses_of s (get_or s.literals i d))
+        → IsListedTo s live limit (0 ∷ i ∷ []) now → IsListedTo s live limit (0 ∷ (i + 1) ∷ []) next
+    witness_step i d l below is listed =
+        let literal : Literal = get_or s.literals i d in
+        let formula = get-some s.formulas literal.formula (below i d l) in
+        listed_step (0 ∷ []) i (witnesses_of s literal) (fits_two s 0 i)
+        (witness_called s i literal formula.0 (slice_get-get_or s.literals i d l) formula.1) is listed
 
-  pub trigger_step : (i k : ℕ) (standing : List ℕ) (literal : Literal) (formula : Kept)
-      (trigger : List Term) → StandFor s.graph s.depths standing
-      → slice_get s.literals i ≡ Some literal → slice_get s.formulas literal.formula ≡ Some formula
-      → literal.holds ≡ formula.universal → slice_get formula.triggers k ≡ Some trigger
-      → IsTriggerDone s its limit standing literal.formula (count_at s literal.formula) trigger now
-      next → IsListedTo s live limit (2 ∷ i ∷ k ∷ []) now
-      → IsListedTo s live limit (2 ∷ i ∷ (k + 1) ∷ []) next
-  trigger_step i k standing literal formula trigger stand there kept universal numbered done =
-      let count : count_at s literal.formula ≡ formula.count =
-      ap (λ o. option_map_or (λ (x : Kept). x.count) o 0) kept in
-      let are : AreMatches s.graph formula.count trigger (λ n. true)
-      (map (λ (m : Substitution). m.nodes) done.found) =
-      subst (λ n. AreMatches s.graph n trigger (λ m. true)
-      (map (λ (m : Substitution). m.nodes) done.found)) count done.are in
-      listed_step (2 ∷ i ∷ []) k (map (instance_at literal.formula standing) done.found)
-      (fits_three s i k)
-      (trigger_called s standing stand i k literal.formula literal formula trigger
-      (record { there = there; formula_is = refl; kept = kept }) universal numbered done.found are)
-      done.done
+    pub trigger_step : (i k : ℕ) (standing : List ℕ) (literal : Literal) (formula : Kept)
+        (trigger : List Term) → StandFor s.graph s.depths standing
+        → slice_get s.literals i ≡ Some literal → slice_get s.formulas literal.formula ≡ Some formula
+        → literal.holds ≡ formula.universal → slice_get formula.triggers k ≡ Some trigger
+        → IsTriggerDone s its limit standing literal.formula (count_at s literal.formula) trigger now
+        next → IsListedTo s live limit (2 ∷ i ∷ k ∷ []) now
+        → IsListedTo s live limit (2 ∷ i ∷ (k + 1) ∷ []) next
+    trigger_step i k standing literal formula trigger stand there kept universal numbered done =
+        let count : count_at s literal.formula ≡ formula.count =
+        ap (λ o. option_map_or (λ (x : Kept). x.count) o 0) kept in
+        let are : AreMatches s.graph formula.count trigger (λ n. true)
+        (map (λ (m : Substitution). m.nodes) done.found) =
+        subst (λ n. AreMatches s.graph n trigger (λ m. true)
+        (map (λ (m : Substitution). m.nodes) done.found)) count done.are in
+        listed_step (2 ∷ i ∷ []) k (map (instance_at literal.formula standing) done.found)
+        (fits_three s i k)
+        (trigger_called s standing stand i k literal.formula literal formula trigger
+        (record { there = there; formula_is = refl; kept = kept }) universal numbered done.found are)
+        done.done
 
 -- ---- triggers
 

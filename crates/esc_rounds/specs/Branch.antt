@@ -13,7 +13,7 @@ use Rattle.esc_term.specs.declared.formula.Item.{Item}
 use Rattle.esc_term.specs.Formula.{substituted_quant}
 use Rattle.esc_cover.specs.Classes.{active_terms}
 use Rattle.esc_nodes.specs.Terms.{term_of, terms_of}
-use Rattle.esc_egraph.specs.Graph.{Graph, IsGraph}
+use Rattle.esc_egraph.specs.Graph.{IsGraph}
 use Rattle.esc_trigger.specs.Triggers.{triggers}
 use Rattle.esc_fact.specs.Base.{Quantified, quantified_in}
 use Rattle.esc_fact.specs.Depth.{deep, depth_of_atom, depth_of_term}

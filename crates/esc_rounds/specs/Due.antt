@@ -66,9 +66,9 @@ pub record IsDue (s : Standing) (live : List Draw) (limit : ℕ) (d : Draw) : Ty
 
 -- the list has exactly the facts that are due, each once, in the order of their first places
 pub record IsRound (s : Standing) (live : List Draw) (limit : ℕ) (list : List Draw) : Type 0
-    where
-  pub exact : (d : Draw) → Contains list d ↔ IsDue s live limit d
-  pub ordered : IsInOrder (CalledAt s) list
+  where
+    pub exact : (d : Draw) → Contains list d ↔ IsDue s live limit d
+    pub ordered : IsInOrder (CalledAt s) list
 
 -- nothing is due
 abbrev pub Saturated : Standing → List Draw → ℕ → Type 0

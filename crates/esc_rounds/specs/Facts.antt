@@ -1,5 +1,5 @@
 -- The facts of draws.
-use Rattle.std.specs.Prelude.{ℕ, List, [], ◌∷◌, ◌++◌, map, slice_get, slice_index}
+use Rattle.std.specs.Prelude.{ℕ, List, map, slice_get, slice_index}
 use Rattle.std.specs.Option.{option_map_or}
 use Rattle.esc_term.specs.declared.term.Term.{Term}
 use Rattle.esc_nodes.specs.Nodes.{shape_at}

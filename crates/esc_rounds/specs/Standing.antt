@@ -1,11 +1,10 @@
 -- How a branch stands where a round begins, by its nodes.
-use Rattle.std.specs.Prelude.{◌≡◌, ℕ, ◌<◌, IsTrue, List, [], ◌∷◌, ◌++◌, length}
+use Rattle.std.specs.Prelude.{◌≡◌, ℕ, ◌<◌, IsTrue, List, length}
 use Rattle.std.specs.List.{All, list_all}
 use Rattle.esc_egraph.specs.Congruence.{IsCongruence}
 use Rattle.esc_egraph.specs.Graph.{Graph, number_of}
 use Rattle.esc_trigger.specs.Laws.{is_trigger}
 use Rattle.esc_maps.specs.Maps.{IsWrite}
-use Rattle.esc_maps.specs.declared.map_match.MapMatch.{MapMatch}
 use Rattle.esc_maps.specs.declared.map_match.MapMatch.TheVariants as map
 use Rattle.esc_rounds.specs.declared.branch.Branch.{Branch}
 use Rattle.esc_rounds.specs.declared.draw.Draw.{Draw}

@@ -20,11 +20,7 @@ use sqlite_items::Items;
 use std::alloc::{AllocError, Global};
 
 /// The nodes that stand for the classes of these.
-fn standing_for(
-    alloc: Global,
-    standing: &[Node],
-    nodes: &[Node],
-) -> Result<NodeList, AllocError>
+fn standing_for(alloc: Global, standing: &[Node], nodes: &[Node]) -> Result<NodeList, AllocError>
     requires { All (λ n. n < length standing.now) nodes.now }
     ensures { IfOk result (λ list. list ≡ map (slice_index standing.now) nodes.now) }
 {
@@ -85,7 +81,15 @@ fn add_trigger(
 {
     let count = branch.formulas[formula as usize].count;
     let found = matches(alloc, branch.graph, count, trigger, &esc_match::All)?;
-    add_matches(alloc, branch, limit, standing, formula, found.as_slice(), listing)
+    add_matches(
+        alloc,
+        branch,
+        limit,
+        standing,
+        formula,
+        found.as_slice(),
+        listing,
+    )
 }
 
 /// Lists the instances that the literal of this number calls for, if it is universal, and that are
@@ -114,7 +118,15 @@ fn add_literal(
         return Ok(());
     }
     'triggers: for trigger in kept.triggers.as_slice() {
-        add_trigger(alloc, branch, limit, standing, literal.formula, trigger, listing)?;
+        add_trigger(
+            alloc,
+            branch,
+            limit,
+            standing,
+            literal.formula,
+            trigger,
+            listing,
+        )?;
     }
     Ok(())
 }

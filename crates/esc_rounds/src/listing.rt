@@ -25,11 +25,7 @@ pub(crate) struct Listing {
 }
 
 /// The keys of what is live.
-fn live_keys(
-    alloc: Global,
-    graph: &EGraph,
-    live: &[Draw],
-) -> Result<IndexSet<Key>, AllocError>
+fn live_keys(alloc: Global, graph: &EGraph, live: &[Draw]) -> Result<IndexSet<Key>, AllocError>
     requires graph { IsGraph graph.now }
     requires there { All (AreThere graph.now) live.now }
     ensures { IfOk result (λ set. AreKeysOf graph.now live.now set.keys) }
@@ -43,11 +39,7 @@ fn live_keys(
 
 impl Listing {
     /// An empty list, where these facts are live.
-    pub(crate) fn new(
-        alloc: Global,
-        graph: &EGraph,
-        live: &[Draw],
-    ) -> Result<Listing, AllocError>
+    pub(crate) fn new(alloc: Global, graph: &EGraph, live: &[Draw]) -> Result<Listing, AllocError>
         requires graph { IsGraph graph.now }
         requires there { All (AreThere graph.now) live.now }
         ensures live { IfOk result (λ listing. AreKeysOf graph.now live.now listing.live.keys) }

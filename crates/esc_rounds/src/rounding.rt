@@ -43,12 +43,7 @@ fn add_maps(
 
 /// The facts that are due within the limit of depth, in their order: none where the branch is
 /// saturated. It fails only where memory is wanting.
-pub fn round(
-    alloc: Global,
-    branch: &Branch,
-    live: &[Draw],
-    limit: u64,
-) -> Result<Draws, AllocError>
+pub fn round(alloc: Global, branch: &Branch, live: &[Draw], limit: u64) -> Result<Draws, AllocError>
     requires { IsReady (standing_of branch.now) live.now }
     ensures round { IfOk result (λ list. IsRound (standing_of branch.now) live.now limit list) }
     ensures drawable { IfOk result

@@ -1,12 +1,7 @@
-use Rattle.std.proofs.Common.{◌≡◌, ℕ, ◌+◌, ◌<◌, Some, length, get_or, map, not, ap, sym, subst, ◌∙◌}
-use Rattle.std.proofs.Common.{arith}
-use Rattle.std.specs.Prelude.{max, nat_le, slice_get, slice_index}
-use Rattle.std.specs.List.{fold, list_any}
-use Rattle.std.specs.Option.{option_map_or}
-use Rattle.esc_rounds.specs.Due.{depth_of_formula, is_within}
+use Rattle.std.proofs.Common.{ap, ◌∙◌}
+use Rattle.std.specs.Prelude.{nat_le, slice_index}
+use Rattle.std.specs.List.{list_any}
 use Rattle.esc_rounds.specs.Standing.{standing_of}
-use Rattle.esc_rounds.specs.declared.draw.Draw.TheVariants.{Instance}
-use Rattle.esc_rounds.specs.declared.kept.Kept.{Kept}
 use Rattle.esc_rounds.proofs.Depths.{instance_beyond, instance_within}
 use Rattle.esc_rounds.proofs.depth.is_within.Goals as goal
 

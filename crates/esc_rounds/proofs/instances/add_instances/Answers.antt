@@ -1,4 +1,4 @@
-use Rattle.std.proofs.Common.{◌≡◌, ◌+◌, ◌∷◌, [], length, refl, subst, arith, ◌∙◌}
+use Rattle.std.proofs.Common.{◌≡◌, ◌+◌, ◌∷◌, [], refl, subst, arith, ◌∙◌}
 use Rattle.esc_rounds.specs.ListingInside.{IsListedTo, listed_in}
 use Rattle.esc_rounds.specs.Standing.{standing_of}
 use Rattle.esc_rounds.proofs.Bounds.{first_literal, passed_literals}
@@ -13,11 +13,12 @@ literals-init c = (
 
 pub literals-preserved : goal.literals-preserved
 literals-preserved c =
-    let same : c.literals.listing.live.keys ≡ c.args.listing.now.live.keys = cc in
-    (c.in_ok-add_literal.ensures.live ∙ c.literals.invariant.0,
-    subst (λ keys. IsListedTo (standing_of c.args.branch.now) keys c.args.limit
-    (2 ∷ (c.literals.number + 1) ∷ []) (listed_in c.add_literal.new.listing)) same
-    c.in_ok-add_literal.ensures.listed)
+    let same : c.literals.listing.live.keys ≡ c.args.listing.now.live.keys = cc in (
+      c.in_ok-add_literal.ensures.live ∙ c.literals.invariant.0,
+      subst (λ keys. IsListedTo (standing_of c.args.branch.now) keys c.args.limit
+          (2 ∷ (c.literals.number + 1) ∷ []) (listed_in c.add_literal.new.listing)) same
+          c.in_ok-add_literal.ensures.listed,
+    )
 
 pub returns-clause-listed : goal.returns-clause-listed
 returns-clause-listed c =

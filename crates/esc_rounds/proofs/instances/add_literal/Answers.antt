@@ -1,7 +1,7 @@
-use Rattle.std.proofs.Common.{◌≡◌, ◌<◌, ◌∷◌, [], List, Some, false, not, refl, length, get_or, ap, sym, subst, arith, ◌∙◌}
+use Rattle.std.proofs.Common.{◌≡◌, ◌<◌, Some, false, not, refl, length, get_or, ap, sym, subst, arith, ◌∙◌}
 use Rattle.std.specs.Prelude.{slice_get}
 use Rattle.std.proofs.lemmas.Option.{slice_get-get_or}
-use Rattle.esc_rounds.specs.ListingInside.{Listed, listed_in}
+use Rattle.esc_rounds.specs.ListingInside.{listed_in}
 use Rattle.esc_rounds.specs.Standing.{Standing, standing_of}
 use Rattle.esc_rounds.specs.declared.kept.Kept.{Kept}
 use Rattle.esc_rounds.specs.declared.kept.Literal.{Literal}
@@ -78,13 +78,14 @@ triggers-preserved c =
     beq_same literal.holds formula.universal
     (ap (λ (k : Kept). not (beq literal.holds k.universal)) c.index-branch-literal.is
     ∙ c.if-literal-kept.false) in
-    let same : c.triggers.listing.live.keys ≡ c.args.listing.now.live.keys = cc in
-    (c.in_ok-add_trigger.ensures.live ∙ c.triggers.invariant.0,
-    trigger_step s c.args.listing.now.live.keys c.triggers.listing.live.keys c.args.limit same
-    (listed_in c.triggers.listing) (listed_in c.add_trigger.new.listing) c.args.number
-    c.triggers.trigger-index c.args.standing.now literal formula c.trigger-item.result
-    c.requires.standing (slice_get-get_or s.literals c.args.number _ c.requires.number) kept
-    universal numbered c.in_ok-add_trigger.ensures.listed c.triggers.invariant.1)
+    let same : c.triggers.listing.live.keys ≡ c.args.listing.now.live.keys = cc in (
+      c.in_ok-add_trigger.ensures.live ∙ c.triggers.invariant.0,
+      trigger_step s c.args.listing.now.live.keys c.triggers.listing.live.keys c.args.limit same
+          (listed_in c.triggers.listing) (listed_in c.add_trigger.new.listing) c.args.number
+          c.triggers.trigger-index c.args.standing.now literal formula c.trigger-item.result
+          c.requires.standing (slice_get-get_or s.literals c.args.number _ c.requires.number) kept
+          universal numbered c.in_ok-add_trigger.ensures.listed c.triggers.invariant.1,
+    )
 
 pub returns-clause-listed : goal.returns-clause-listed
 returns-clause-listed c =

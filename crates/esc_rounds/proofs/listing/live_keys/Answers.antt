@@ -1,4 +1,4 @@
-use Rattle.std.proofs.Common.{◌≡◌, length, subst}
+use Rattle.std.proofs.Common.{subst}
 use Rattle.std.proofs.lemmas.List.{take_all}
 use Rattle.esc_rounds.specs.ListingInside.{AreKeysOf}
 use Rattle.esc_rounds.proofs.Steps.{keys_more}

@@ -1,7 +1,6 @@
-use Rattle.std.proofs.Common.{◌≡◌, ◌∷◌, [], length, map, take, refl, subst, sym, ap, arith, ◌∙◌}
+use Rattle.std.proofs.Common.{◌≡◌, ◌∷◌, [], map, take, refl, subst, sym, ap, ◌∙◌}
 use Rattle.std.specs.List.{Contains}
 use Rattle.std.proofs.lemmas.List.{take_all}
-use Rattle.std.proofs.lemmas.List.Elements.{Contains-get_or}
 use Rattle.esc_maps.specs.MapMatches.{place_of_match}
 use Rattle.esc_rounds.specs.ListingInside.{listed_in, with_all_due}
 use Rattle.esc_rounds.specs.Standing.{Standing, standing_of}
@@ -16,10 +15,11 @@ consider-requires-clause-drawable c =
     let there : Contains c.as_slice-map_match-items.result.now c.map_match-item.result =
     (c.found.map_match-index, c.found-test.true, sym c.map_match-item.is) in
     called_drawable (standing_of c.args.branch.now) (Map c.map_match-item.result)
-    (1 ∷ place_of_match c.map_match-item.result)
-    ((c.in_ok-found.ensures.exact c.map_match-item.result).0
-    (subst (λ ms. Contains ms c.map_match-item.result) c.as_slice-map_match-items.ensures there),
-    refl)
+    (1 ∷ place_of_match c.map_match-item.result) (
+      (c.in_ok-found.ensures.exact c.map_match-item.result).0
+          (subst (λ ms. Contains ms c.map_match-item.result) c.as_slice-map_match-items.ensures there),
+      refl,
+    )
 
 pub returns-clause-listed : goal.returns-clause-listed
 returns-clause-listed c =

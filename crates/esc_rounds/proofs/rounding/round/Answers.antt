@@ -1,8 +1,7 @@
-use Rattle.std.proofs.Common.{◌≡◌, ◌∷◌, [], List, get_or, subst, sym}
+use Rattle.std.proofs.Common.{◌≡◌, ◌∷◌, [], get_or, subst, sym}
 use Rattle.std.proofs.lemmas.List.Elements.{All-weaker, Contains-get_or}
-use Rattle.esc_rounds.specs.ListingInside.{AreKeysOf, IsListedTo, Listed, listed_in}
-use Rattle.esc_rounds.specs.Standing.{AreThere, IsDrawable, Standing, standing_of}
-use Rattle.esc_rounds.specs.declared.key.Key.{Key}
+use Rattle.esc_rounds.specs.ListingInside.{AreKeysOf, IsListedTo, listed_in}
+use Rattle.esc_rounds.specs.Standing.{AreThere, IsDrawable, standing_of}
 use Rattle.esc_rounds.proofs.Bounds.{called_drawable, is_round, listed_none}
 use Rattle.esc_rounds.proofs.Steps.{drawable_there}
 use Rattle.esc_rounds.proofs.rounding.round.Goals as goal

@@ -1,8 +1,8 @@
-use Rattle.std.proofs.Common.{◌≡◌, Bool, true, false, not, if◌then◌else◌, List, ◌∷◌, [], ◌++◌, ap, sym, subst, ◌∙◌}
+use Rattle.std.proofs.Common.{◌≡◌, true, false, if◌then◌else◌, List, ◌∷◌, [], ◌++◌, ap, sym, ◌∙◌}
 use Rattle.esc_cover.proofs.TestLemmas.{not_true}
 use Rattle.esc_rounds.specs.declared.key.Key.{Key}
-use Rattle.esc_rounds.specs.KeyInside.{key_of, same_key}
-use Rattle.esc_rounds.specs.ListingInside.{Listed, has_key, listed_in, with_due}
+use Rattle.esc_rounds.specs.KeyInside.{key_of}
+use Rattle.esc_rounds.specs.ListingInside.{has_key, listed_in}
 use Rattle.esc_rounds.specs.Standing.{Standing, standing_of}
 use Rattle.esc_rounds.proofs.Considering.{PairOf, listed_pair, not_false}
 use Rattle.esc_rounds.proofs.Considering.{due_far, due_listed, due_live, due_new}
