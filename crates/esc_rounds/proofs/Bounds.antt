@@ -32,7 +32,7 @@ use Rattle.esc_rounds.proofs.Matched.{in_order-from_pairs}
 use Rattle.esc_rounds.proofs.Places.{Less, before-less, less-before, less_none}
 
 -- a list has an element at each place that is there
-get-there : {A : Type 0} (xs : List A) (i : ℕ) (x : A) → slice_get xs i ≡ Some x → i < length xs
+pub get-there : {A : Type 0} (xs : List A) (i : ℕ) (x : A) → slice_get xs i ≡ Some x → i < length xs
 get-there [] i x e = cc
 get-there (y ∷ xs) zero x e = omega arith
 get-there (y ∷ xs) (suc i) x e = let l = get-there xs i x e in omega (arith, l)

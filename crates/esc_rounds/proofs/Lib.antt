@@ -1,8 +1,11 @@
+pub mod Active
 pub mod Bounds
 pub mod Calls
 pub mod Considering
 pub mod Depths
+pub mod Drawn
 pub mod Groups
+pub mod LegalRounds
 pub mod Matched
 pub mod Places
 pub mod Steps

@@ -124,3 +124,8 @@ less_behind (f ∷ front) ps qs less = inr (refl, less_behind front ps qs less)
 pub next_length : (front : List ℕ) (m n : ℕ) → length (front ++ m ∷ []) ≡ length (front ++ n ∷ [])
 next_length [] m n = refl
 next_length (f ∷ front) m n = ap suc (next_length front m n)
+
+pub less_not : (ps : List ℕ) → Less ps ps → ⊥
+less_not [] none = none
+less_not (p ∷ ps) (inl l) = omega (arith, l)
+less_not (p ∷ ps) (inr (e, rest)) = less_not ps rest

@@ -1,8 +1,8 @@
 -- What a standing and draws say of the live facts and the literals of a branch.
-use Rattle.std.specs.Prelude.{◌≡◌, ◌≢◌, ℕ, ◌<◌, Bool, true, false, Option, Some, List, length}
+use Rattle.std.specs.Prelude.{◌≡◌, ◌≢◌, ℕ, ◌<◌, Bool, true, false, IsTrue, Option, Some, List, length}
 use Rattle.std.specs.Prelude.{map}
 use Rattle.std.specs.Prelude.{slice_get, slice_index}
-use Rattle.std.specs.List.{All, AllPairs, AllZip, filter}
+use Rattle.std.specs.List.{All, AllPairs, AllZip, filter, list_all}
 use Rattle.std.specs.Option.{option_and_then, option_map}
 use Rattle.esc_term.specs.declared.term.Term.{Term}
 use Rattle.esc_term.specs.declared.formula.Formula.{Formula}
@@ -11,6 +11,7 @@ use Rattle.esc_term.specs.declared.formula.Formula.TheViews.{out-Formula}
 use Rattle.esc_term.specs.declared.formula.Quant.{Quant}
 use Rattle.esc_term.specs.declared.formula.Item.{Item}
 use Rattle.esc_term.specs.Formula.{substituted_quant}
+use Rattle.esc_term.specs.Term.{is_ground}
 use Rattle.esc_cover.specs.Classes.{active_terms}
 use Rattle.esc_nodes.specs.Terms.{term_of, terms_of}
 use Rattle.esc_egraph.specs.Graph.{IsGraph}
@@ -18,7 +19,7 @@ use Rattle.esc_trigger.specs.Triggers.{triggers}
 use Rattle.esc_fact.specs.Base.{Quantified, quantified_in}
 use Rattle.esc_fact.specs.Depth.{deep, depth_of_atom, depth_of_term}
 use Rattle.esc_fact.specs.Fact.{closed_at, formulas_of, store}
-use Rattle.esc_fact.specs.Legal.{HasTerm, made_facts}
+use Rattle.esc_fact.specs.Legal.{HasAtom, HasTerm, made_facts}
 use Rattle.esc_fact.specs.declared.base.Base.{Base}
 use Rattle.esc_fact.specs.declared.fact.Fact.{Fact}
 use Rattle.esc_fact.specs.declared.fact.Fact.TheVariants as fact
@@ -44,6 +45,9 @@ pub record IsKept (base : Base) (facts : List Fact) (k : Kept) : Type 0 where
   pub numbered : slice_get (quantified_in base) k.number ≡ Some q
   pub first : first_origin base facts (closed_at q k.outer)
       ≡ Some (record { number = k.number; outer = k.outer })
+  pub atom : HasAtom base facts (closed_at q k.outer)
+  pub as_many : length k.outer ≡ q.outer
+  pub grounded : IsTrue (list_all is_ground k.outer)
   pub universal : k.universal ≡ q.universal
   pub count : k.count ≡ q.quant.count
   pub triggers_are : k.triggers ≡ triggers (substituted_quant k.outer q.quant 0)

@@ -3,6 +3,7 @@ pub mod Called
 pub mod Due
 pub mod Facts
 pub mod KeyInside
+pub mod Laws
 pub mod ListingInside
 pub mod Origins
 pub mod Standing

@@ -1,0 +1,19 @@
+-- What holds of rounds.
+use Rattle.std.specs.Prelude.{ℕ, List, ◌++◌, map}
+use Rattle.esc_term.specs.declared.formula.Item.{Item}
+use Rattle.esc_fact.specs.Legal.{IsLegal}
+use Rattle.esc_fact.specs.declared.base.Base.{Base}
+use Rattle.esc_fact.specs.declared.fact.Fact.{Fact}
+use Rattle.esc_rounds.specs.Branch.{IsStanding}
+use Rattle.esc_rounds.specs.Due.{IsRound}
+use Rattle.esc_rounds.specs.Facts.{fact_of}
+use Rattle.esc_rounds.specs.Standing.{IsReady, Standing}
+use Rattle.esc_rounds.specs.declared.draw.Draw.{Draw}
+
+-- the facts of a round may follow the live ones, in their order
+abbrev pub RoundsAreLegal : Type 0
+RoundsAreLegal =
+    (base : Base) (facts : List Fact) (items : List Item) (s : Standing) (live : List Draw)
+    (limit : ℕ) (list : List Draw) → IsLegal base facts → IsStanding base facts items s live
+    → IsReady s live → IsRound s live limit list
+    → IsLegal base (facts ++ map (fact_of s.graph s.formulas) list)
