@@ -190,7 +190,7 @@ module _ (base : Base) (facts : List Fact) (items : List Item) (s : Standing) (l
       → is_ground (nodes.term_of s.graph.nodes n) ≡ true
   node_ground n l = ground s.graph.nodes st.graph.terms n l
 
-  kept_at : (f : ℕ) (k : Kept) → slice_get s.formulas f ≡ Some k → IsKept base facts k
+  pub kept_at : (f : ℕ) (k : Kept) → slice_get s.formulas f ≡ Some k → IsKept base facts k
   kept_at f k at = kept_is base facts items s live st once f k at (get-there s.formulas f k at)
 
   skolem_fact : (k : Kept) → IsKept base facts k → IsFact base (fact.Skolem k.number k.outer)
@@ -276,14 +276,14 @@ module _ (base : Base) (facts : List Fact) (items : List Item) (s : Standing) (l
       (All-weaker (StandsForClass s.graph s.depths) (λ n. n < length s.graph.nodes)
       (λ n stands. stands.there) ns c.3.stand))
 
-  write_drawn : (w : ℕ) → w < length s.graph.nodes → IsWrite s.graph w
+  pub write_drawn : (w : ℕ) → w < length s.graph.nodes → IsWrite s.graph w
       → HasTerm base facts
       (store (argument s.graph w 0) (argument s.graph w 1) (argument s.graph w 2))
   write_drawn w l is =
       subst (HasTerm base facts) (write_term base facts items s live st once w l is)
       (write_has base facts items s live st w is.0 is.1 is.2 l (ap (λ (x : Shape). x.args) is.3))
 
-  read_drawn : (w j : ℕ) → StandsForClass s.graph s.depths j → IsReadAt s.graph w j
+  pub read_drawn : (w j : ℕ) → StandsForClass s.graph s.depths j → IsReadAt s.graph w j
       → HasTerm base facts (nodes.term_of s.graph.nodes j)
   read_drawn w j stands read =
       let args : (shape_at s.graph.nodes read.read).args ≡ read.map ∷ read.place ∷ [] =
@@ -297,6 +297,20 @@ module _ (base : Base) (facts : List Fact) (items : List Item) (s : Standing) (l
       stand_has base facts items s live st j read.place stands (omega (arith, less, low)) read.at
       (arg_has base facts items s live st read.read read.place read.read_there within)
 
+  pub instance_have : (f : ℕ) (ns p : List ℕ) → CalledAt s (Instance f ns) p
+      → All (λ n. HasTerm base facts (nodes.term_of s.graph.nodes n)) ns
+  instance_have f ns p c =
+      let k = c.3.formula in
+      let low = get-there s.formulas f k c.3.is.kept in
+      let triggers : IsTrue (list_all (is_trigger k.count) k.triggers) =
+      subst (λ (x : Kept). IsTrue (list_all (is_trigger x.count) x.triggers))
+      (get_or_from_slice_get s.formulas f k k c.3.is.kept) (ready.triggers f k low) in
+      let trigger : IsTrue (is_trigger k.count c.3.trigger) =
+      all_at (is_trigger k.count) k.triggers c.3.trigger triggers
+      (get-within k.triggers c.1 c.3.trigger c.3.numbered) in
+      matched_have base facts items s live st k.count c.3.trigger ns c.2 trigger c.3.many c.3.match
+      c.3.stand
+
   called_drawn : (d : Draw) (p : List ℕ) → CalledAt s d p → IsDrawnFrom base facts (made d)
   called_drawn (Witness f) p c =
       let k = c.1.formula in
@@ -309,18 +323,9 @@ module _ (base : Base) (facts : List Fact) (items : List Item) (s : Standing) (l
   called_drawn (Instance f ns) p c =
       let k = c.3.formula in
       let is = kept_at f k c.3.is.kept in
-      let low = get-there s.formulas f k c.3.is.kept in
-      let triggers : IsTrue (list_all (is_trigger k.count) k.triggers) =
-      subst (λ (x : Kept). IsTrue (list_all (is_trigger x.count) x.triggers))
-      (get_or_from_slice_get s.formulas f k k c.3.is.kept) (ready.triggers f k low) in
-      let trigger : IsTrue (is_trigger k.count c.3.trigger) =
-      all_at (is_trigger k.count) k.triggers c.3.trigger triggers
-      (get-within k.triggers c.1 c.3.trigger c.3.numbered) in
       subst (IsDrawnFrom base facts) (sym (instance_fact s.graph s.formulas f k c.3.is.kept ns)) (
         (is.q, is.numbered, is.atom),
-        All-map (HasTerm base facts) (nodes.term_of s.graph.nodes) ns
-            (matched_have base facts items s live st k.count c.3.trigger ns c.2 trigger c.3.many
-            c.3.match c.3.stand),
+        All-map (HasTerm base facts) (nodes.term_of s.graph.nodes) ns (instance_have f ns p c),
       )
 
   -- ---- the whole

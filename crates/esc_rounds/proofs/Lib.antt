@@ -8,4 +8,5 @@ pub mod Groups
 pub mod LegalRounds
 pub mod Matched
 pub mod Places
+pub mod ShallowRounds
 pub mod Steps

@@ -1,6 +1,8 @@
 -- What holds of rounds.
-use Rattle.std.specs.Prelude.{ℕ, List, ◌++◌, map}
+use Rattle.std.specs.Prelude.{ℕ, ◌≤◌, List, ◌++◌, map}
+use Rattle.std.specs.List.{All}
 use Rattle.esc_term.specs.declared.formula.Item.{Item}
+use Rattle.esc_fact.specs.Depth.{deep}
 use Rattle.esc_fact.specs.Legal.{IsLegal}
 use Rattle.esc_fact.specs.declared.base.Base.{Base}
 use Rattle.esc_fact.specs.declared.fact.Fact.{Fact}
@@ -9,6 +11,14 @@ use Rattle.esc_rounds.specs.Due.{IsRound}
 use Rattle.esc_rounds.specs.Facts.{fact_of}
 use Rattle.esc_rounds.specs.Standing.{IsReady, Standing}
 use Rattle.esc_rounds.specs.declared.draw.Draw.{Draw}
+
+-- the first facts of a round lie within the limit behind the live ones, if these do
+abbrev pub RoundsAreShallow : Type 0
+RoundsAreShallow =
+    (base : Base) (facts : List Fact) (items : List Item) (s : Standing) (live : List Draw)
+    (limit : ℕ) (first rest : List Draw) → IsStanding base facts items s live → IsReady s live
+    → IsRound s live limit (first ++ rest) → All (λ d. d.depth ≤ limit) (deep base facts)
+    → All (λ d. d.depth ≤ limit) (deep base (facts ++ map (fact_of s.graph s.formulas) first))
 
 -- the facts of a round may follow the live ones, in their order
 abbrev pub RoundsAreLegal : Type 0
