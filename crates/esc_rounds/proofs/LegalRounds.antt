@@ -101,7 +101,7 @@ all_append p xs ys first second =
       | inr b ↦ all_at p ys x second b
     ])
 
-get-within : {A : Type 0} (xs : List A) (k : ℕ) (x : A) → slice_get xs k ≡ Some x → Contains xs x
+pub get-within : {A : Type 0} (xs : List A) (k : ℕ) (x : A) → slice_get xs k ≡ Some x → Contains xs x
 get-within xs k x e = (k, get-there xs k x e, get_or_from_slice_get xs k x x e)
 
 -- ---- more facts hold no less
@@ -136,6 +136,18 @@ module _ (base : Base) (facts more : List Fact) where
   drawn_more (fact.Skolem n us) h = (h.0, h.1, atom_more (closed_at h.0 us) h.2)
   drawn_more (fact.Map1 m i x) h = term_more (store m i x) h
   drawn_more (fact.Map2 m i x j) h = (term_more (store m i x) h.0, term_more j h.1)
+
+-- ---- triggers of formulas that are kept
+
+pub trigger_at : (s : Standing) (live : List Draw) → IsReady s live → (f : ℕ) (k : Kept) (i : ℕ)
+    (trigger : List Term) → slice_get s.formulas f ≡ Some k → slice_get k.triggers i ≡ Some trigger
+    → IsTrue (is_trigger k.count trigger)
+trigger_at s live ready f k i trigger at numbered =
+    let triggers : IsTrue (list_all (is_trigger k.count) k.triggers) =
+    subst (λ (x : Kept). IsTrue (list_all (is_trigger x.count) x.triggers))
+    (get_or_from_slice_get s.formulas f k k at)
+    (ready.triggers f k (get-there s.formulas f k at)) in
+    all_at (is_trigger k.count) k.triggers trigger triggers (get-within k.triggers i trigger numbered)
 
 -- ---- what a round lists
 
@@ -300,16 +312,9 @@ module _ (base : Base) (facts : List Fact) (items : List Item) (s : Standing) (l
   pub instance_have : (f : ℕ) (ns p : List ℕ) → CalledAt s (Instance f ns) p
       → All (λ n. HasTerm base facts (nodes.term_of s.graph.nodes n)) ns
   instance_have f ns p c =
-      let k = c.3.formula in
-      let low = get-there s.formulas f k c.3.is.kept in
-      let triggers : IsTrue (list_all (is_trigger k.count) k.triggers) =
-      subst (λ (x : Kept). IsTrue (list_all (is_trigger x.count) x.triggers))
-      (get_or_from_slice_get s.formulas f k k c.3.is.kept) (ready.triggers f k low) in
-      let trigger : IsTrue (is_trigger k.count c.3.trigger) =
-      all_at (is_trigger k.count) k.triggers c.3.trigger triggers
-      (get-within k.triggers c.1 c.3.trigger c.3.numbered) in
-      matched_have base facts items s live st k.count c.3.trigger ns c.2 trigger c.3.many c.3.match
-      c.3.stand
+      matched_have base facts items s live st c.3.formula.count c.3.trigger ns c.2
+      (trigger_at s live ready f c.3.formula c.1 c.3.trigger c.3.is.kept c.3.numbered) c.3.many
+      c.3.match c.3.stand
 
   called_drawn : (d : Draw) (p : List ℕ) → CalledAt s d p → IsDrawnFrom base facts (made d)
   called_drawn (Witness f) p c =

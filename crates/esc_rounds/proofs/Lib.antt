@@ -7,6 +7,7 @@ pub mod Drawn
 pub mod Groups
 pub mod LegalRounds
 pub mod Matched
+pub mod MetRounds
 pub mod Places
 pub mod ShallowRounds
 pub mod Steps

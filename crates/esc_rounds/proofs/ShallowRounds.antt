@@ -1,15 +1,14 @@
 -- The facts of a round lie within the limit.
 use Rattle.std.proofs.Common.{◌≡◌, ℕ, ◌+◌, ◌<◌, ◌≤◌, inl, inr, Bool, true, false, if◌then◌else◌}
-use Rattle.std.proofs.Common.{IsTrue, List, [], ◌∷◌, ◌++◌, length, get_or, map, Some, None, refl, ap}
+use Rattle.std.proofs.Common.{IsTrue, List, [], ◌∷◌, ◌++◌, length, map, Some, None, refl, ap}
 use Rattle.std.proofs.Common.{sym, subst, ◌∙◌, arith, suc, true≢false, append-nil}
-use Rattle.std.specs.Prelude.{Option, max, nat_le, slice_get, slice_index}
-use Rattle.std.specs.List.{All, Contains, cons_option, filter_map, flat_map, fold, list_any}
+use Rattle.std.specs.Prelude.{Option, max, slice_index}
+use Rattle.std.specs.List.{All, Contains, cons_option, fold, list_any}
 use Rattle.std.specs.Option.{option_map_or}
 use Rattle.std.proofs.lemmas.Bool.{leb-true}
 use Rattle.std.proofs.lemmas.List.{append_assoc, map-append}
-use Rattle.std.proofs.lemmas.List.Elements.{All-contains, All-map, All-push, All-weaker}
+use Rattle.std.proofs.lemmas.List.Elements.{All-push, All-weaker}
 use Rattle.std.proofs.lemmas.List.Elements.{Contains-append_left}
-use Rattle.std.proofs.lemmas.Option.{slice_get-get_or}
 use Rattle.std.proofs.lemmas.List.Sums.{fold-append}
 use Rattle.esc_term.specs.Equal.{same_formula, same_term, same_formula-is, same_term-is}
 use Rattle.esc_term.specs.Formula.{terms_of}
@@ -22,21 +21,18 @@ use Rattle.esc_cover.specs.Atoms.{atoms_of}
 use Rattle.esc_cover.proofs.TestLemmas.{any_at}
 use Rattle.esc_nodes.specs.Terms as nodes
 use Rattle.esc_nodes.specs.Laws.{TermsAreGround, TermsAreOnce}
-use Rattle.esc_fact.specs.Base.{Quantified, quantified_in}
 use Rattle.esc_fact.specs.Depth.{Deep, deep, depth_behind, depth_of_atom, depth_of_quantified}
 use Rattle.esc_fact.specs.Depth.{depth_of_term, first_depth, greatest, with_depth}
 use Rattle.esc_fact.specs.Fact.{closed_at, formula_of, formulas_of, store}
 use Rattle.esc_fact.specs.Legal.{HasAtom, HasTerm}
 use Rattle.esc_fact.specs.declared.base.Base.{Base}
 use Rattle.esc_fact.specs.declared.fact.Fact.{Fact}
-use Rattle.esc_fact.specs.declared.fact.Fact.TheVariants as fact
-use Rattle.esc_match.proofs.Orders.{Contains-map, Contains-of_map}
 use Rattle.esc_maps.specs.Chosen.{StandsForClass}
 use Rattle.esc_maps.specs.Maps.{IsWrite}
 use Rattle.esc_maps.specs.declared.map_match.MapMatch.TheVariants as map_match
 use Rattle.esc_rounds.specs.Branch.{IsKept, IsStanding}
 use Rattle.esc_rounds.specs.Called.{CalledAt}
-use Rattle.esc_rounds.specs.Due.{IsDue, IsRound, depth_of_formula, is_within}
+use Rattle.esc_rounds.specs.Due.{IsRound, depth_of_formula, is_within}
 use Rattle.esc_rounds.specs.Facts.{argument, fact_of}
 use Rattle.esc_rounds.specs.Laws.{RoundsAreShallow}
 use Rattle.esc_rounds.specs.Standing.{IsReady, Standing}

@@ -1,7 +1,9 @@
 -- What holds of rounds.
 use Rattle.std.specs.Prelude.{ℕ, ◌≤◌, List, ◌++◌, map}
 use Rattle.std.specs.List.{All}
+use Rattle.esc_term.specs.declared.formula.Formula.{Formula}
 use Rattle.esc_term.specs.declared.formula.Item.{Item}
+use Rattle.esc_egraph.specs.Graph.{IsGraph}
 use Rattle.esc_fact.specs.Depth.{deep}
 use Rattle.esc_fact.specs.Legal.{IsLegal}
 use Rattle.esc_fact.specs.declared.base.Base.{Base}
@@ -9,6 +11,7 @@ use Rattle.esc_fact.specs.declared.fact.Fact.{Fact}
 use Rattle.esc_rounds.specs.Branch.{IsStanding}
 use Rattle.esc_rounds.specs.Due.{IsRound}
 use Rattle.esc_rounds.specs.Facts.{fact_of}
+use Rattle.esc_rounds.specs.Makers.{AreMet, ClassesFollow, makers_of}
 use Rattle.esc_rounds.specs.Standing.{IsReady, Standing}
 use Rattle.esc_rounds.specs.declared.draw.Draw.{Draw}
 
@@ -27,3 +30,10 @@ RoundsAreLegal =
     (limit : ℕ) (list : List Draw) → IsLegal base facts → IsStanding base facts items s live
     → IsReady s live → IsRound s live limit list
     → IsLegal base (facts ++ map (fact_of s.graph s.formulas) list)
+
+-- what makes the facts of a round is met
+abbrev pub RoundsAreMet : Type 0
+RoundsAreMet =
+    (s : Standing) (live : List Draw) (limit : ℕ) (list : List Draw) (known : List Formula)
+    → IsGraph s.graph → IsReady s live → IsRound s live limit list → ClassesFollow s.graph known
+    → All (λ d. AreMet s.graph known (makers_of s.graph s.formulas d)) list

@@ -5,5 +5,6 @@ pub mod Facts
 pub mod KeyInside
 pub mod Laws
 pub mod ListingInside
+pub mod Makers
 pub mod Origins
 pub mod Standing
