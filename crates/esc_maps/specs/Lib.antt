@@ -1,0 +1,5 @@
+pub mod Chosen
+pub mod ChosenInside
+pub mod MapMatches
+pub mod Maps
+pub mod ReadsInside

@@ -1,0 +1,13 @@
+pub mod Active
+pub mod Bounds
+pub mod Calls
+pub mod Considering
+pub mod Depths
+pub mod Drawn
+pub mod Groups
+pub mod LegalRounds
+pub mod Matched
+pub mod MetRounds
+pub mod Places
+pub mod ShallowRounds
+pub mod Steps

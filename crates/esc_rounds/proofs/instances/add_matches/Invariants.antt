@@ -1,0 +1,11 @@
+use Rattle.std.proofs.Common.{◌≡◌, map, take}
+use Rattle.esc_rounds.specs.ListingInside.{instance_at, listed_in, with_all_due}
+use Rattle.esc_rounds.specs.Standing.{standing_of}
+use Rattle.esc_rounds.proofs.instances.add_matches.Given as goal
+
+abbrev pub invariant-found : goal.invariant-found
+invariant-found l =
+    (l.listing.live ≡ l.fn.listing.live)
+    × (listed_in l.listing
+    ≡ with_all_due (standing_of l.branch) l.fn.listing.live.keys l.limit (listed_in l.fn.listing)
+    (map (instance_at l.formula l.standing) (take l.substitution-index l.found)))

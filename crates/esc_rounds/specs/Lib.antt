@@ -1,0 +1,10 @@
+pub mod Branch
+pub mod Called
+pub mod Due
+pub mod Facts
+pub mod KeyInside
+pub mod Laws
+pub mod ListingInside
+pub mod Makers
+pub mod Origins
+pub mod Standing
