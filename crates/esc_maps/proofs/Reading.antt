@@ -1,5 +1,6 @@
 -- Reads of maps by the classes of the maps.
-use Rattle.std.proofs.Common.{◌≡◌, ℕ, suc, ◌+◌, ◌<◌, ◌↔◌, ◌⊎◌, inl, inr, List, [], ◌∷◌, ◌++◌, length}
+use Rattle.std.proofs.Common.{◌≡◌, ℕ, suc, ◌+◌, ◌<◌, ◌↔◌, ◌⊎◌, inl, inr, List, [], ◌∷◌, ◌++◌}
+use Rattle.std.proofs.Common.{length}
 use Rattle.std.proofs.Common.{drop, get_or, map, take, refl, ap, sym, subst, ◌∙◌, arith, drop-cons}
 use lib.Dec.{eqb}
 use Rattle.std.specs.List.{Contains, dedup}
@@ -188,7 +189,8 @@ place_there g older n m p count e l is =
 
 module _ (g : Graph) (depths standing : List ℕ) (stand : StandFor g depths standing)
     (closed : IsCongruence g.nodes (number_of g)) (entries : List (ℕ × ℕ))
-    (are : AreReads g standing (length g.nodes) entries) (args_below : ArgsAreOlder g) (w : ℕ) (w_there : w < length g.nodes)
+    (are : AreReads g standing (length g.nodes) entries) (args_below : ArgsAreOlder g) (w : ℕ)
+    (w_there : w < length g.nodes)
     (write : IsWrite g w) where
   -- a read under a number, where the write is of its map
   read_under : (class j : ℕ) → Contains entries (class, j)
@@ -199,7 +201,8 @@ module _ (g : Graph) (depths standing : List ℕ) (stand : StandFor g depths sta
       let n = h.0 in
       let m = h.1 in
       let p = h.2 in
-      let there : p < length g.nodes = place_there g args_below n m p (length g.nodes) refl h.3 h.4 in
+      let there : p < length g.nodes = place_there g args_below n m p (length g.nodes) refl h.3 h.4
+      in
       let first : class ≡ number_of g m = ap (λ (x : ℕ × ℕ). x.0) h.5 in
       let second : j ≡ get_or standing p 0 = ap (λ (x : ℕ × ℕ). x.1) h.5 in (
         subst (StandsForClass g depths) (sym second) (stand.stand p there),

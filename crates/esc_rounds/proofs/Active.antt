@@ -1,5 +1,6 @@
 -- Which nodes have terms that stand in the live facts.
-use Rattle.std.proofs.Common.{◌≡◌, ℕ, pos, ◌-◌, ◌<◌, ◌==◌, ◌⊎◌, inl, inr, Bool, true, false, ◌&&◌, List, []}
+use Rattle.std.proofs.Common.{◌≡◌, ℕ, pos, ◌-◌, ◌<◌, ◌==◌, ◌⊎◌, inl, inr, Bool, true, false, ◌&&◌}
+use Rattle.std.proofs.Common.{List, []}
 use Rattle.std.proofs.Common.{◌∷◌, length, get_or, map, reverse, refl, ap, sym, subst, ◌∙◌}
 use Rattle.std.proofs.Common.{arith, true≢false, zero, suc}
 use Rattle.std.specs.Prelude.{IsTrue, nat_lt}
@@ -235,7 +236,8 @@ module _ (base : Base) (facts : List Fact) (items : List Item) (s : Standing) (l
       and_right (list_all is_application trigger) (holds_all count trigger) both in
       let k : ℕ = length ns - 1 - j in
       let low : k < count = omega (arith, l, many) in
-      let met = in_trigger s.graph (class_in s.graph ns) trigger match.nodes matched match.match apps
+      let met = in_trigger s.graph (class_in s.graph ns) trigger match.nodes matched match.match
+      apps
       k (below_found count (flat_map variables_of trigger) held k low) in
       let at : get_or (reverse ns) k 0 ≡ get_or ns j d =
       get_or-reverse ns k 0 (omega (arith, low, many))

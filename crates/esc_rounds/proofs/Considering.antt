@@ -1,5 +1,6 @@
 -- When a draw is listed.
-use Rattle.std.proofs.Common.{◌≡◌, Bool, true, false, not, ◌&&◌, if◌then◌else◌, ℕ, List, refl, ap, sym, ◌∙◌, true≢false}
+use Rattle.std.proofs.Common.{◌≡◌, Bool, true, false, not, ◌&&◌, if◌then◌else◌, ℕ, List, refl, ap}
+use Rattle.std.proofs.Common.{sym, ◌∙◌, true≢false}
 use Rattle.esc_rounds.specs.Due.{is_within}
 use Rattle.esc_rounds.specs.KeyInside.{key_of}
 use Rattle.esc_rounds.specs.ListingInside.{Listed, has_key, pushed, with_due}

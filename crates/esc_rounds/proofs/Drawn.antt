@@ -112,7 +112,8 @@ module _ (base : Base) (facts : List Fact) (items : List Item) (s : Standing) (l
   write_term w l is =
       let args : (shape_at s.graph.nodes w).args ≡ is.0 ∷ is.1 ∷ is.2 ∷ [] =
       ap (λ (x : Shape). x.args) is.3 in
-      let first : term w ≡ App (Name (record { 0 = 2 })) (map term (shape_at s.graph.nodes w).args) =
+      let first : term w ≡ App (Name (record { 0 = 2 })) (map term (shape_at s.graph.nodes w).args)
+      =
       term_of-App s.graph.nodes w (Name (record { 0 = 2 })) st.graph.terms l
       (ap (λ (x : Shape). x.top) is.3) in
       let second : App (Name (record { 0 = 2 })) (map term (shape_at s.graph.nodes w).args)

@@ -101,7 +101,8 @@ all_append p xs ys first second =
       | inr b ↦ all_at p ys x second b
     ])
 
-pub get-within : {A : Type 0} (xs : List A) (k : ℕ) (x : A) → slice_get xs k ≡ Some x → Contains xs x
+pub get-within : {A : Type 0} (xs : List A) (k : ℕ) (x : A) → slice_get xs k ≡ Some x
+    → Contains xs x
 get-within xs k x e = (k, get-there xs k x e, get_or_from_slice_get xs k x x e)
 
 -- ---- more facts hold no less
@@ -147,7 +148,8 @@ trigger_at s live ready f k i trigger at numbered =
     subst (λ (x : Kept). IsTrue (list_all (is_trigger x.count) x.triggers))
     (get_or_from_slice_get s.formulas f k k at)
     (ready.triggers f k (get-there s.formulas f k at)) in
-    all_at (is_trigger k.count) k.triggers trigger triggers (get-within k.triggers i trigger numbered)
+    all_at (is_trigger k.count) k.triggers trigger triggers (get-within k.triggers i trigger
+    numbered)
 
 -- ---- what a round lists
 

@@ -29,7 +29,8 @@ use Rattle.esc_rounds.proofs.Groups.{AreCalledIn}
 
 -- ---- lists in order
 
-pub in_order-from_pairs : {A : Type 0} (R : A → A → Type 0) (xs : List A) → AllPairs R xs → InOrder R xs
+pub in_order-from_pairs : {A : Type 0} (R : A → A → Type 0) (xs : List A) → AllPairs R xs
+    → InOrder R xs
 in_order-from_pairs R [] pairs = tt
 in_order-from_pairs R (x ∷ xs) pairs = (
   λ y c. subst (R x) c.2 (pairs 0 (suc c.0) y (omega arith) (omega (arith, c.1))),
@@ -146,17 +147,24 @@ module _ (s : Standing) (standing : List ℕ) (stand : StandFor s.graph s.depths
         let triggers_is : calls.formula.triggers ≡ formula.triggers =
         ap (λ (x : Kept). x.triggers) formula_is in
         let trigger_is : calls.trigger ≡ trigger = cc in
-        let count_is : calls.formula.count ≡ formula.count = ap (λ (x : Kept). x.count) formula_is in (
+        let count_is : calls.formula.count ≡ formula.count = ap (λ (x : Kept). x.count) formula_is
+        in (
           f_is,
           record {
             many = calls.many ∙ count_is;
-            there = All-weaker (StandsForClass s.graph s.depths) IsThere (λ n stands. stands.there) ns
+            there = All-weaker (StandsForClass s.graph s.depths) IsThere (λ n stands. stands.there)
+                ns
                 calls.stand;
             match = subst (λ m. TriggerMatch s.graph (class_in s.graph ns) trigger m) (sym q_is)
                 (subst (λ t. TriggerMatch s.graph (class_in s.graph ns) t c.2) trigger_is
                 calls.match);
-            wanted = subst (Any (λ n. IsTrue true)) (sym q_is)
-                (0, get_or c.2 0 0, calls.some, get_or_default c.2 0 (get_or c.2 0 0) 0 calls.some, refl);
+            wanted = subst (Any (λ n. IsTrue true)) (sym q_is) (
+              0,
+              get_or c.2 0 0,
+              calls.some,
+              get_or_default c.2 0 (get_or c.2 0 0) 0 calls.some,
+              refl,
+            );
           },
           calls.stand,
         )
@@ -190,7 +198,8 @@ module _ (s : Standing) (standing : List ℕ) (stand : StandFor s.graph s.depths
                     many = (sound_at b cb).1.many;
                     there = there;
                     match = matches_are_congruent s.graph trigger (stood b.nodes) b.nodes q
-                        (same_back (number_of s.graph) b.nodes (stood b.nodes) (stood_same b.nodes there))
+                        (same_back (number_of s.graph) b.nodes (stood b.nodes) (stood_same b.nodes
+                        there))
                         match.1.match;
                     wanted = match.1.wanted;
                   }),

@@ -92,7 +92,8 @@ module _ (g : Graph) (graph : IsGraph g) (known : List Formula) (follow : Classe
           equal_values M (term a) (term b)
           (Follows-in_models known (Eq (term a) (term b)) (follow a b la lb same) M all)
 
-      app_value : (n : ℕ) (head : Head) → There n → term n ≡ App head (map term (shape_at g.nodes n).args)
+      app_value : (n : ℕ) (head : Head) → There n
+          → term n ≡ App head (map term (shape_at g.nodes n).args)
           → value_in M (term n)
           ≡ applied M head (map (value_in M) (map term (shape_at g.nodes n).args))
       app_value n head l is =
@@ -112,7 +113,8 @@ module _ (g : Graph) (graph : IsGraph g) (known : List Formula) (follow : Classe
         bound_term k l =
             let many : length terms ≡ length ns = length-map ns term in
             substituted_term-Var terms 0 k
-            ∙ (ap (λ b. if b then Var k else binding terms (k - 0) (Var k)) (le-ltb k 0 (omega arith))
+            ∙ (ap (λ b. if b then Var k else binding terms (k - 0) (Var k)) (le-ltb k 0 (omega
+            arith))
             ∙ (ap (λ i. binding terms i (Var k)) (omega arith)
             ∙ (get_or-reverse terms k (Var k) (omega (arith, many, l))
             ∙ (ap (λ n. get_or terms (n - 1 - k) (Var k)) many
@@ -154,7 +156,8 @@ module _ (g : Graph) (graph : IsGraph g) (known : List Formula) (follow : Classe
               (term_of-App g.nodes node head graph.terms in_range topped))
               ∙ same_value node n in_range l same))))
 
-          all_values : (ps : List Term) (ms matched : List ℕ) → MatchAll g (class_in g ns) ps ms matched
+          all_values : (ps : List Term) (ms matched : List ℕ)
+              → MatchAll g (class_in g ns) ps ms matched
               → ((n : ℕ) → Contains ms n → There n) → IsBelow (flat_map variables_of ps)
               → map (value_in M) (map (substituted_term terms 0) ps)
               ≡ map (value_in M) (map term ms)
@@ -171,7 +174,8 @@ module _ (g : Graph) (graph : IsGraph g) (known : List Formula) (follow : Classe
               let tail : map (value_in M) (map (substituted_term terms 0) qs)
               ≡ map (value_in M) (map term nodes) =
               all_values qs nodes rest others
-              (λ n c. within n (subst (λ xs. Contains xs n) (sym at) (Contains-later node nodes n c)))
+              (λ n c. within n (subst (λ xs. Contains xs n) (sym at) (Contains-later node nodes n
+              c)))
               (λ k c. below k (subst (λ us. Contains (flat_map variables_of us) k) (sym is)
               (Contains-append_right (variables_of q) (flat_map variables_of qs) k c))) in
               ap (λ us. map (value_in M) (map (substituted_term terms 0) us)) is
@@ -276,14 +280,16 @@ module _ (g : Graph) (graph : IsGraph g) (known : List Formula) (follow : Classe
         let lp : There p =
         args_there g graph r lr p (subst (λ xs. Contains xs p) (sym shape_is)
         (Contains-later a (p ∷ []) p (Contains-here p []))) in
-        let place : value_in M (term j) ≡ value_in M (term p) = sym (same_value M all p j lp lj same)
+        let place : value_in M (term j) ≡ value_in M (term p) = sym (same_value M all p j lp lj
+        same)
         in
         let node : value_in M (term r)
         ≡ applied M (Name (record { 0 = 1 })) (value_in M (term a) ∷ value_in M (term p) ∷ []) =
         node_value M all r _ lr (ap (λ (x : Shape). x.top) is)
         ∙ ap (λ xs. applied M (Name (record { 0 = 1 })) (values M xs)) shape_is in
         select_value M t (term j)
-        ∙ (ap (λ v. applied M (Name (record { 0 = 1 })) (v ∷ value_in M (term j) ∷ [])) (map_is M all)
+        ∙ (ap (λ v. applied M (Name (record { 0 = 1 })) (v ∷ value_in M (term j) ∷ [])) (map_is M
+        all)
         ∙ (ap (λ v. applied M (Name (record { 0 = 1 })) (value_in M (term a) ∷ v ∷ [])) place
         ∙ sym node)))
 
@@ -307,7 +313,8 @@ module _ (g : Graph) (graph : IsGraph g) (known : List Formula) (follow : Classe
             omega arith,
             refl,
             All-cons (IsMet g known) (select (term w) (term j)) []
-                (select_met (term w) read.read read.map read.place j read.read_there lj read.is read.at
+                (select_met (term w) read.read read.map read.place j read.read_there lj read.is
+                read.at
                 (λ M all. sym (alike_values M all read.write w read.write_there lw read.alike write)
                 ∙ same_value M all read.write read.map read.write_there la same))
                 (All-nil (IsMet g known)),
@@ -334,7 +341,8 @@ module _ (g : Graph) (graph : IsGraph g) (known : List Formula) (follow : Classe
                 All-cons (IsMet g known) (term w) (select (argument g w 0) (term j) ∷ [])
                     (itself_met w lw)
                     (All-cons (IsMet g known) (select (argument g w 0) (term j)) []
-                    (select_met (argument g w 0) read.read read.map read.place j read.read_there lj read.is
+                    (select_met (argument g w 0) read.read read.map read.place j read.read_there lj
+                    read.is
                     read.at
                     (λ M all. sym (same_value M all of.0 (get_or (args w) 0 0) lm l_arg first)
                     ∙ same_value M all of.0 read.map lm la of.4))

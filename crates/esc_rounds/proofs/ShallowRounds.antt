@@ -15,7 +15,8 @@ use Rattle.esc_term.specs.Formula.{terms_of}
 use Rattle.esc_term.specs.declared.term.Term.{Term}
 use Rattle.esc_term.specs.declared.formula.Formula.{Formula}
 use Rattle.esc_term.specs.declared.formula.Item.{Item}
-use Rattle.esc_term.proofs.Members.{Contains-cases, Contains-flat_map, Contains-here, Contains-later}
+use Rattle.esc_term.proofs.Members.{Contains-cases, Contains-flat_map, Contains-here}
+use Rattle.esc_term.proofs.Members.{Contains-later}
 use Rattle.esc_term.proofs.Members.{Contains-none}
 use Rattle.esc_cover.specs.Atoms.{atoms_of}
 use Rattle.esc_cover.proofs.TestLemmas.{any_at}

@@ -125,13 +125,16 @@ module _ (s : Standing) (live its : List Key) (limit : ℕ) (same : its ≡ live
         let literal : Literal = get_or s.literals i d in
         let formula = get-some s.formulas literal.formula (below i d l) in
         listed_step (0 ∷ []) i (witnesses_of s literal) (fits_two s 0 i)
-        (witness_called s i literal formula.0 (slice_get-get_or s.literals i d l) formula.1) is listed
+        (witness_called s i literal formula.0 (slice_get-get_or s.literals i d l) formula.1) is
+        listed
 
     pub trigger_step : (i k : ℕ) (standing : List ℕ) (literal : Literal) (formula : Kept)
         (trigger : List Term) → StandFor s.graph s.depths standing
-        → slice_get s.literals i ≡ Some literal → slice_get s.formulas literal.formula ≡ Some formula
+        → slice_get s.literals i ≡ Some literal
+        → slice_get s.formulas literal.formula ≡ Some formula
         → literal.holds ≡ formula.universal → slice_get formula.triggers k ≡ Some trigger
-        → IsTriggerDone s its limit standing literal.formula (count_at s literal.formula) trigger now
+        → IsTriggerDone s its limit standing literal.formula (count_at s literal.formula) trigger
+        now
         next → IsListedTo s live limit (2 ∷ i ∷ k ∷ []) now
         → IsListedTo s live limit (2 ∷ i ∷ (k + 1) ∷ []) next
     trigger_step i k standing literal formula trigger stand there kept universal numbered done =
@@ -144,7 +147,8 @@ module _ (s : Standing) (live its : List Key) (limit : ℕ) (same : its ≡ live
         listed_step (2 ∷ i ∷ []) k (map (instance_at literal.formula standing) done.found)
         (fits_three s i k)
         (trigger_called s standing stand i k literal.formula literal formula trigger
-        (record { there = there; formula_is = refl; kept = kept }) universal numbered done.found are)
+        (record { there = there; formula_is = refl; kept = kept }) universal numbered done.found
+        are)
         done.done
 
 -- ---- triggers

@@ -1,5 +1,6 @@
 -- What a standing and draws say of the live facts and the literals of a branch.
-use Rattle.std.specs.Prelude.{◌≡◌, ◌≢◌, ℕ, ◌<◌, Bool, true, false, IsTrue, Option, Some, List, length}
+use Rattle.std.specs.Prelude.{◌≡◌, ◌≢◌, ℕ, ◌<◌, Bool, true, false, IsTrue, Option, Some, List}
+use Rattle.std.specs.Prelude.{length}
 use Rattle.std.specs.Prelude.{map}
 use Rattle.std.specs.Prelude.{slice_get, slice_index}
 use Rattle.std.specs.List.{All, AllPairs, AllZip, filter, list_all}

@@ -35,7 +35,8 @@ returns c =
     (c.index.ensures ∙ second)
     ∙ get_or_default c.args.standing.now j c.index-standing-index.result 0 there) in
     let class : c.index-2.result ≡ number_of c.args.graph.now m =
-    c.index-2.ensures ∙ (c.class_number-class.ensures.number ∙ ap (number_of c.args.graph.now) first)
+    c.index-2.ensures ∙ (c.class_number-class.ensures.number
+    ∙ ap (number_of c.args.graph.now) first)
     in
     on_ok_weaker c.push.result
     (λ e. subst (AreReads c.args.graph.now c.args.standing.now (c.args.node + 1))

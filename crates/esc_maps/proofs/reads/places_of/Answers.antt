@@ -27,5 +27,6 @@ returns c =
     (entered_under c.args.graph.now c.args.reads.now c.args.write c.class_number.result
     c.class_number-2.result c.new-places.result.items c.add_places.new.places.items
     c.add_places-2.new.places.items c.new-places.ensures.items c.class_number.ensures.number map
-    (λ j. c.in_ok-add_places.ensures j) (λ j. c.in_ok-add_places-2.ensures j)) c.sort_unstable.ensures.permutation c.sort_unstable.ensures.sorted
+    (λ j. c.in_ok-add_places.ensures j) (λ j. c.in_ok-add_places-2.ensures j))
+    c.sort_unstable.ensures.permutation c.sort_unstable.ensures.sorted
     (dedup_is eqb c.sort_unstable.new.self.items c.dedup.new.self.items c.dedup.ensures.filtered)

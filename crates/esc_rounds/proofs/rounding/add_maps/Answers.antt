@@ -17,7 +17,8 @@ consider-requires-clause-drawable c =
     called_drawable (standing_of c.args.branch.now) (Map c.map_match-item.result)
     (1 ∷ place_of_match c.map_match-item.result) (
       (c.in_ok-found.ensures.exact c.map_match-item.result).0
-          (subst (λ ms. Contains ms c.map_match-item.result) c.as_slice-map_match-items.ensures there),
+          (subst (λ ms. Contains ms c.map_match-item.result) c.as_slice-map_match-items.ensures
+          there),
       refl,
     )
 
