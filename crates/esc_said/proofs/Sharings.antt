@@ -3,7 +3,6 @@ use Rattle.std.proofs.Common.{◌≡◌, ℕ, ◌<◌, ◌↔◌, Bool, List, ma
 use Rattle.std.specs.List.{All, Contains}
 use Rattle.std.proofs.lemmas.List.Elements.{All-contains}
 use Rattle.esc_term.specs.declared.term.Term.{Term}
-use Rattle.esc_term.specs.declared.formula.Formula.TheVariants as formula
 use Rattle.esc_term.specs.declared.formula.Formula.{out-Formula}
 use Rattle.esc_term.specs.declared.formula.Formula.TheVariants.{rolls-Less}
 use Rattle.esc_term.specs.declared.formula.Formula.TheOpen.{Formula-F}
