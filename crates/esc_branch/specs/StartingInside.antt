@@ -10,11 +10,6 @@ use Rattle.esc_egraph.specs.Graph.{number_of}
 use Rattle.esc_branch.specs.declared.branch.Branch.{Branch}
 use Rattle.esc_branch.specs.View.{literals_in}
 
--- the nodes stand among these, and have these terms
-pub record AreNodesOf (shapes : List Shape) (nodes : List ℕ) (ts : List Term) : Type 0 where
-  pub there : All (λ n. n < length shapes) nodes
-  pub terms : map (term_of shapes) nodes ≡ ts
-
 -- a branch that has nodes alone, each of which is a class by itself
 pub record IsBare (v : Branch) : Type 0 where
   pub literals : literals_in v ≡ []
