@@ -1,6 +1,6 @@
 -- The graph and the groups have what the literals hold apart; where they are met, the classes agree
 -- with the literals.
-use Rattle.std.proofs.Common.{◌≡◌, ℕ, ◌<◌, List, length, map, Any, IsTrue}
+use Rattle.std.proofs.Common.{◌≡◌, ◌<◌, List, length, map, Any, IsTrue}
 use Rattle.std.specs.List.{All, Contains}
 use Rattle.esc_term.specs.declared.term.Term.{Term}
 use Rattle.esc_cover.specs.Classes.{together}

@@ -1,15 +1,8 @@
 -- Parts are smaller than their whole, by the size that the walk over a formula goes by.
-use Rattle.std.proofs.Common.{◌≡◌, ℕ, ◌+◌, ◌*◌, ◌<◌, ◌⊎◌, inl, inr, List, length, map, sum, get_or}
+use Rattle.std.proofs.Common.{◌≡◌, ℕ, ◌+◌, ◌*◌, ◌<◌, ◌⊎◌, inl, inr, List, map, sum}
 use Rattle.std.proofs.Common.{ap, arith}
-use Rattle.std.proofs.lemmas.List.Sums.{get_or-le-sum_by, sum-map}
 use denote.Hole.Carrier.{roll}
 use Rattle.esc_term.specs.declared.term.Sym.{Sym}
-use Rattle.esc_term.specs.declared.term.Head.{Head}
-use Rattle.esc_term.specs.declared.term.Term.{Term}
-use Rattle.esc_term.specs.declared.term.Term.TheVariants as term
-use Rattle.esc_term.specs.declared.term.Term.TheOpen.{Term-F}
-use Rattle.esc_term.specs.declared.term.Term.TheViews.{roll-Term}
-use Rattle.esc_term.specs.declared.term.Term.TheFolds.{fold-Term, fold-roll-Term}
 use Rattle.esc_term.specs.declared.formula.Formula.{Formula}
 use Rattle.esc_term.specs.declared.formula.Formula.TheVariants.{And, Or, Not, Implies, Iff}
 use Rattle.esc_term.specs.declared.formula.Formula.TheVariants.{LabelPos, LabelNeg}

@@ -1,35 +1,22 @@
 -- The least classes of terms are those of the least classes of their nodes.
-use Rattle.std.proofs.Common.{◌≡◌, ℕ, suc, ◌<◌, Bool, true, inl, inr, List, [], ◌∷◌, ◌++◌, length}
-use Rattle.std.proofs.Common.{get_or, map, All, IsTrue, ap, sym, subst, ◌∙◌, arith}
-use Rattle.std.specs.List.{AllZip, Contains}
-use Rattle.std.proofs.lemmas.List.{get_or-map, length-map}
-use Rattle.std.proofs.lemmas.List.Elements.{AllZip-get_or, Contains-append_left}
-use Rattle.std.proofs.lemmas.List.Elements.{Contains-push_cases, length_all_zip}
-use Rattle.esc_term.specs.declared.term.Head.{Head}
+use Rattle.std.proofs.Common.{◌≡◌, Bool, true, inl, inr, List, [], ◌∷◌, ◌++◌}
+use Rattle.std.proofs.Common.{ap, sym, ◌∙◌}
+use Rattle.std.specs.List.{Contains}
+use Rattle.std.proofs.lemmas.List.Elements.{Contains-append_left}
+use Rattle.std.proofs.lemmas.List.Elements.{Contains-push_cases}
 use Rattle.esc_term.specs.declared.term.Term.{Term}
-use Rattle.esc_term.specs.declared.term.Term.TheVariants as term
 use Rattle.esc_term.specs.declared.formula.Item.{Item}
 use Rattle.esc_term.proofs.Members.{Contains-none}
-use Rattle.esc_term.proofs.Parts.{apart_Num, args_of_same, head_of_same}
-use Rattle.esc_union.specs.Merges.{SameClass}
 use Rattle.esc_cover.specs.Arithmetic.{without_numbers}
 use Rattle.esc_cover.specs.Classes.{together}
 use Rattle.esc_cover.specs.Least as cover
-use Rattle.esc_cover.proofs.ClassLemmas.{number, number_apart, number_found, number_same}
 use Rattle.esc_cover.proofs.ClassLemmas.{of_together, together_by}
-use Rattle.esc_nodes.specs.Nodes.{AreTerms, Shape, shape_at}
-use Rattle.esc_nodes.specs.Terms.{built, term_of, terms_of}
-use Rattle.esc_nodes.specs.declared.top.Top.{Top}
-use Rattle.esc_nodes.specs.declared.top.Top.TheVariants.{Num, App}
-use Rattle.esc_nodes.proofs.NodeTerms.{terms_are_built}
-use Rattle.esc_egraph.specs.Congruence.{AllSame, AreAlike, IsCongruence, IsLeast}
-use Rattle.esc_egraph.specs.Graph.{IsGraph, number_of}
+use Rattle.esc_egraph.specs.Congruence.{IsLeast}
+use Rattle.esc_egraph.specs.Graph.{IsGraph}
 use Rattle.esc_branch.specs.declared.branch.Branch.{Branch}
-use Rattle.esc_branch.specs.View.{classes_in, same_in, term_at, terms_in}
+use Rattle.esc_branch.specs.View.{classes_in, same_in, terms_in}
 use Rattle.esc_node_terms.specs.LiteralForms.{equated}
-use Rattle.esc_branch.proofs.NodeTests.{of_together_at, together_at}
 use Rattle.esc_branch.proofs.Together.{same_in-equivalence}
-use Rattle.esc_node_terms.proofs.Places.{Contains-term_of, node_of_term}
 
 -- ---- the classes of nodes pass for a test of terms
 

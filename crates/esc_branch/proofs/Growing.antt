@@ -1,21 +1,16 @@
 -- The branch of nodes that are made one after another, each a class by itself.
-use Rattle.std.proofs.Common.{◌≡◌, ℕ, pos, ◌<◌, ◌⊎◌, Bool, true, inl, inr, List, [], ◌∷◌, ◌++◌}
+use Rattle.std.proofs.Common.{◌≡◌, ℕ, ◌<◌, ◌⊎◌, Bool, true, inl, inr, List, []}
 use Rattle.std.proofs.Common.{length, All, refl, ap, sym, subst, ◌∙◌, arith}
 use Rattle.std.specs.List.{Contains}
 use Rattle.std.proofs.lemmas.Grind.{same_number_lists}
-use Rattle.std.proofs.lemmas.List.{get_or_push, length_push}
-use Rattle.std.proofs.lemmas.List.Sums.{fold-append}
 use Rattle.esc_term.specs.declared.term.Term.{Term}
-use Rattle.esc_term.specs.declared.term.Term.TheVariants as term
 use Rattle.esc_term.specs.declared.formula.Item.{Item}
-use Rattle.esc_term.specs.Term.{with_once}
 use Rattle.esc_term.proofs.Members.{Contains-none}
 use Rattle.esc_union.specs.Merges.{SameClass}
 use Rattle.esc_cover.specs.Least as cover
 use Rattle.esc_cover.specs.Classes.{together}
 use Rattle.esc_nodes.specs.Nodes.{AreTerms, Shape, shape_at}
-use Rattle.esc_nodes.specs.Terms.{at_place, built, term_of, terms_of, with_next}
-use Rattle.esc_nodes.proofs.NodeTerms.{terms_are_built, terms_are_once, terms_stay}
+use Rattle.esc_nodes.specs.Terms.{terms_of}
 use Rattle.esc_egraph.specs.Congruence.{IsCongruence, IsKnown, IsLeast, IsMade, IsMet, SameAmong}
 use Rattle.esc_egraph.specs.Graph.{Graph, IsGraph, number_of}
 use Rattle.esc_branch.specs.declared.branch.Branch.{Branch}
@@ -26,9 +21,8 @@ use Rattle.esc_branch.proofs.Agreeing.{IsTold}
 use Rattle.esc_node_terms.proofs.Finest.{congruence_in}
 use Rattle.esc_branch.proofs.Finest.{together_in}
 use Rattle.esc_branch.proofs.NodeTests.{of_together_at}
-use Rattle.esc_node_terms.proofs.Once.{with_once-absent, with_once-there}
 use Rattle.esc_branch.proofs.Outcomes.{is_branch}
-use Rattle.esc_node_terms.proofs.Places.{Contains-term_of, length-terms_of, node_of_term}
+use Rattle.esc_node_terms.proofs.Places.{node_of_term}
 use Rattle.esc_branch.proofs.Together.{same_in-equivalence}
 
 -- ---- each node is a class by itself

@@ -1,16 +1,10 @@
 -- Nodes in one class, and their terms in one class.
-use Rattle.std.proofs.Common.{◌≡◌, ℕ, ℤ, ◌<◌, true, List, length, map, refl, ap, sym, subst, ◌∙◌}
+use Rattle.std.proofs.Common.{◌≡◌, ℕ, ◌<◌, true, length, refl, ap, sym, subst, ◌∙◌}
 use Rattle.std.specs.List.{Contains}
 use Rattle.esc_term.specs.declared.term.Term.{Term}
-use Rattle.esc_term.specs.declared.term.Term.TheVariants as term
-use Rattle.esc_term.proofs.Parts.{apart_Num}
 use Rattle.esc_union.specs.Merges.{SameClass}
 use Rattle.esc_cover.specs.Classes.{together}
-use Rattle.esc_nodes.specs.Nodes.{AreTerms, Shape, shape_at}
-use Rattle.esc_nodes.specs.Terms.{built, term_of}
-use Rattle.esc_nodes.specs.declared.top.Top.{Top}
-use Rattle.esc_nodes.specs.declared.top.Top.TheVariants.{Num, App}
-use Rattle.esc_nodes.proofs.NodeTerms.{terms_are_built, terms_are_once}
+use Rattle.esc_nodes.proofs.NodeTerms.{terms_are_once}
 use Rattle.esc_egraph.specs.Graph.{IsGraph, number_of}
 use Rattle.esc_branch.specs.declared.branch.Branch.{Branch}
 use Rattle.esc_branch.specs.View.{classes_in, term_at, terms_in}

@@ -1,26 +1,18 @@
 -- Classes of terms are those of their nodes.
-use Rattle.std.proofs.Common.{◌≡◌, ℕ, pos, zero, suc, ◌+◌, ◌<◌, Bool, true, false, cond, List, []}
-use Rattle.std.proofs.Common.{◌∷◌, length, get_or, IsTrue, refl, ap, sym, ◌∙◌, arith}
+use Rattle.std.proofs.Common.{◌≡◌, ℕ, ◌<◌}
+use Rattle.std.proofs.Common.{length, IsTrue, refl, ap, sym, ◌∙◌}
 use Rattle.std.specs.Cmp.{IsEquivalence}
-use Rattle.std.specs.List.{Contains, fold}
 use Rattle.std.proofs.lemmas.Bool.{eq-eqb, eqb-true}
 use Rattle.std.proofs.lemmas.Cmp.{nat_eq_equiv}
-use Rattle.std.proofs.lemmas.List.{get_or_default, length_push}
-use Rattle.std.proofs.lemmas.List.Elements.{Contains-get_or}
 use Rattle.esc_term.specs.declared.term.Term.{Term}
-use Rattle.esc_term.specs.declared.term.Term.TheVariants as term
-use Rattle.esc_term.specs.Equal.{same_term, same_term-is}
 use Rattle.esc_union.specs.Merges.{SameClass}
 use Rattle.esc_cover.specs.Classes.{together}
 use Rattle.esc_cover.proofs.ClassLemmas.{of_together, together_by}
-use Rattle.esc_nodes.specs.Nodes.{AreTerms, Shape}
-use Rattle.esc_nodes.specs.Terms.{at_place, built, term_of, terms_of, with_next}
-use Rattle.esc_nodes.proofs.NodeTerms.{terms_are_once}
+use Rattle.esc_nodes.specs.Nodes.{AreTerms}
 use Rattle.esc_egraph.specs.Graph.{number_of}
 use Rattle.esc_node_terms.proofs.Places.{Contains-term_of, node_of_term, place-term_of}
 use Rattle.esc_branch.specs.declared.branch.Branch.{Branch}
 use Rattle.esc_branch.specs.View.{class_number, classes_in, same_in, term_at, terms_in}
-use Rattle.esc_node_terms.specs.Nodes.{place_among}
 
 pub same_in-equivalence : (v : Branch) → IsEquivalence (same_in v)
 same_in-equivalence v = record {

@@ -1,16 +1,13 @@
 -- A walk over a closed formula that makes the node of each term after those of its arguments.
-use Rattle.std.proofs.Common.{◌≡◌, ℕ, suc, ◌+◌, ◌<◌, ◌⊎◌, Bool, true, inl, inr, List, [], ◌∷◌, ◌++◌}
+use Rattle.std.proofs.Common.{◌≡◌, ℕ, suc, ◌+◌, ◌<◌, ◌⊎◌, true, inl, inr, List, [], ◌∷◌, ◌++◌}
 use Rattle.std.proofs.Common.{length, get_or, map, take, cond, refl, ap, sym, subst, ◌∙◌}
 use Rattle.std.proofs.Common.{append-nil, arith}
-use Rattle.std.specs.List.{All, filter, flat_map, fold, list_all}
+use Rattle.std.specs.List.{All, filter, fold, list_all}
 use Rattle.std.proofs.lemmas.Bool.{and_parts}
-use Rattle.std.proofs.lemmas.Grind.{flat_map-append}
 use Rattle.std.proofs.lemmas.List.{map-append, take_more}
-use Rattle.std.proofs.lemmas.List.Elements.{All-push, Contains-get_or}
+use Rattle.std.proofs.lemmas.List.Elements.{All-push}
 use Rattle.std.proofs.lemmas.List.Sums.{fold-append}
-use Rattle.esc_term.specs.declared.term.Head.{Head}
 use Rattle.esc_term.specs.declared.term.Term.{Term}
-use Rattle.esc_term.specs.declared.term.Term.TheVariants as term
 use Rattle.esc_term.specs.declared.term.Sym.{Sym}
 use Rattle.esc_term.specs.declared.formula.Formula.{Formula}
 use Rattle.esc_term.specs.declared.formula.Formula.TheVariants.{And, Or, Not, Implies, Iff, Eq}
@@ -21,11 +18,9 @@ use Rattle.esc_term.proofs.ClosedFormulas.{closed_has_ground_terms}
 use Rattle.esc_term.proofs.FormulaLevels.{binds-And, binds-Or, binds-Not, binds-Implies, binds-Iff}
 use Rattle.esc_term.proofs.FormulaLevels.{binds-Eq, binds-Less, binds-Distinct, binds-LabelPos}
 use Rattle.esc_term.proofs.FormulaLevels.{binds-LabelNeg}
-use Rattle.esc_term.proofs.GroundTerms.{is_ground-App, is_ground-Var, terms_of-Eq, terms_of-Iff}
+use Rattle.esc_term.proofs.GroundTerms.{is_ground-App, terms_of-Eq, terms_of-Iff}
 use Rattle.esc_term.proofs.GroundTerms.{terms_of-Implies, terms_of-Less}
-use Rattle.esc_term.proofs.TermLevels.{subterms-App, subterms-Num}
 use Rattle.esc_cover.specs.Classes.{active_terms}
-use Rattle.esc_cover.proofs.TestLemmas.{all_at}
 use Rattle.esc_nodes.specs.Nodes.{Shape}
 use Rattle.esc_nodes.specs.Terms as node
 use Rattle.esc_nodes.specs.Terms.{at_place, term_of}

@@ -1,14 +1,10 @@
 -- What contracts see of a branch, and what stands on it.
-use Rattle.std.specs.Prelude.{◌≡◌, ℕ, suc, ◌<◌, ◌==◌, Bool, true, false, IsTrue, if◌then◌else◌}
-use Rattle.std.specs.Prelude.{List, [], ◌∷◌, length, map, Any}
+use Rattle.std.specs.Prelude.{◌≡◌, ℕ, ◌<◌, ◌==◌, Bool, IsTrue}
+use Rattle.std.specs.Prelude.{List, length, map, Any}
 use Rattle.std.specs.List.{All, Contains}
 use Rattle.esc_term.specs.declared.term.Term.{Term}
-use Rattle.esc_term.specs.declared.formula.Formula.{Formula, out-Formula}
-use Rattle.esc_term.specs.declared.formula.Formula.TheOpen.{Formula-F}
-use Rattle.esc_term.specs.declared.formula.Formula.TheVariants as formula
-use Rattle.esc_term.specs.declared.formula.Quant.{Quant}
+use Rattle.esc_term.specs.declared.formula.Formula.{Formula}
 use Rattle.esc_term.specs.declared.formula.Item.{Item}
-use Rattle.esc_term.specs.Equal.{same_term}
 use Rattle.esc_cover.specs.Arithmetic.{InPlay, without_numbers}
 use Rattle.esc_cover.specs.Classes.{classes_by, together}
 use Rattle.esc_cover.specs.Counterexample.{IsConsistent}

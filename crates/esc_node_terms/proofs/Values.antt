@@ -118,8 +118,8 @@ module _ (g : Graph) (groups : List (List ℕ)) (literals : List Item)
       All-contains (All (λ n. n < node_count g)) groups group kept.members
       (found.0, found.2, found.3) in
       let literal : Contains literals (told_apart (map (node_term g) group)) =
-      All-contains (λ (ns : List ℕ). Contains literals (told_apart (map (node_term g) ns))) groups group
-      kept.groups_are (found.0, found.2, found.3) in
+      All-contains (λ (ns : List ℕ). Contains literals (told_apart (map (node_term g) ns))) groups
+      group kept.groups_are (found.0, found.2, found.3) in
       let apart : all_apart (map (value_in M) (map (node_term g) group)) ≡ true =
       sym (truth-Distinct (read_in M) (map (node_term g) group))
       ∙ All-contains (HoldsIn M) literals

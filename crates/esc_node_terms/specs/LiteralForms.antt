@@ -1,6 +1,6 @@
 -- The literals that tell which terms are equal and which differ, and how a graph and groups keep
 -- them.
-use Rattle.std.specs.Prelude.{◌≡◌, ℕ, ◌<◌, Bool, true, false, IsTrue, List, length, map, Any}
+use Rattle.std.specs.Prelude.{◌≡◌, ℕ, ◌<◌, Bool, true, false, IsTrue, List, map, Any}
 use Rattle.std.specs.List.{All, Contains}
 use Rattle.esc_term.specs.declared.term.Term.{Term}
 use Rattle.esc_term.specs.declared.formula.Formula.{Formula, out-Formula}

@@ -1,6 +1,5 @@
 -- What a graph and groups keep apart, as literals where there are no others.
-use Rattle.std.proofs.Common.{◌≡◌, ℕ, ◌<◌, false, inl, inr, List, ◌++◌, map}
-use Rattle.std.proofs.Common.{sym}
+use Rattle.std.proofs.Common.{◌≡◌, ℕ, ◌<◌, false, inl, inr, List, ◌++◌, map, sym}
 use Rattle.std.specs.List.{All, Contains}
 use Rattle.std.proofs.lemmas.List.Elements.{All-append, All-map, Contains-append_cases}
 use Rattle.std.proofs.lemmas.List.Elements.{Contains-append_left, Contains-append_right}
@@ -9,7 +8,7 @@ use Rattle.esc_cover.specs.Counterexample.{IsConsistent}
 use Rattle.esc_egraph.specs.Congruence.{IsMet}
 use Rattle.esc_egraph.specs.Graph.{Graph, IsGraph, number_of}
 use Rattle.esc_distinct.specs.Groups.{AreBroken}
-use Rattle.esc_node_terms.specs.LiteralForms.{AreKept, denied, equated, IsClassLiteral, told_apart}
+use Rattle.esc_node_terms.specs.LiteralForms.{AreKept, IsClassLiteral, denied, equated, told_apart}
 use Rattle.esc_node_terms.proofs.Agreeing.{agreeing}
 use Rattle.esc_node_terms.proofs.LiteralForms.{apart_no_denied, denied_no_apart, equated_no_apart}
 use Rattle.esc_node_terms.proofs.LiteralForms.{equated_no_denied, form-Distinct, form-Eq}
@@ -50,9 +49,6 @@ module _ (g : Graph) (groups : List (List ℕ)) where
               let found = Contains-of_map (group_item g) groups item second in
               of_group found.0 found.1 found.2
         ]
-
-  abbrev IsClassLiteral : Item → Type 0
-  IsClassLiteral item = IsTrue (is_branch_form (out-Formula item.formula) item.positive)
 
   pub are_kept : IsGraph g → All (All (λ n. n < node_count g)) groups
       → AreKept g groups kept_items
