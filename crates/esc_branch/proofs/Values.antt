@@ -1,5 +1,7 @@
 -- The values of nodes in a model of the literals: no class holds what the literals keep apart.
+use Rattle.std.proofs.Common.{List}
 use Rattle.std.specs.List.{All}
+use Rattle.esc_term.specs.declared.term.Term.{Term}
 use Rattle.esc_term.specs.Model.{Model}
 use Rattle.esc_cover.specs.Arithmetic.{without_numbers}
 use Rattle.esc_cover.specs.Laws.{HoldsIn, TogetherHasOneValue}
