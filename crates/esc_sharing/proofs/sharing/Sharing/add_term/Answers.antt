@@ -18,12 +18,6 @@ settle_numbers-requires-clause-shared g c =
     mid_shared g.T.Theory.sound g.T.Theory.admits g.T.Theory.numbers g.T.Theory.made
     c.args.self.now c.put_in_play.new.self c.put_in_play.ensures.rest c.requires.shared
     c.in-Ok.ensures.grown
-    (record {
-      alloc = c.args.self.now.alloc;
-      graph = c.args.self.now.graph;
-      groups = c.args.self.now.groups;
-      literals = [];
-    })
 
 pub settle_numbers-requires-clause-nodes : goal.settle_numbers-requires-clause-nodes
 settle_numbers-requires-clause-nodes g c =
