@@ -36,7 +36,7 @@ use Rattle.esc_sharing.proofs.Lists.{All-each, Contains-of_map}
 use Rattle.esc_outcome.specs.Jam.{IsNumberOf}
 use Rattle.esc_outcome.specs.JamLaws.{IsGivenBy, shared_in}
 use Rattle.esc_outcome.proofs.Giving.{given_after_call}
-use Rattle.esc_outcome.proofs.Jamming.{stop_is_jam}
+use Rattle.esc_outcome.proofs.Jamming.{stops_is_stopped}
 use Rattle.esc_play.specs.Play.{Comes, GivesMore, PlayEnds, PlaysMore, StopsPlay}
 use Rattle.esc_play.specs.WalkingInside.{Brings, arithmetic_of, sides_in}
 use Rattle.esc_play.proofs.MorePlay.{active_terms-push, becomes_number, new_number, number_or_new}
@@ -191,23 +191,21 @@ module _ (entry mid : Sharing Simplex) (f : Formula) (closed : is_closed f ≡ t
 
     stopped : (why : Stop) → why ≢ stop.Memory → IsUnderway (shared_in exit)
         → UnlessMemory Barred why → StopsPlay entry exit f why
-    stopped why not_memory underway barred fs literals among given are asks = record {
-      underway = underway;
-      jam = stop_is_jam fs exit literals (terms_at mid.graph nodes)
-          (number_terms (numbers_in mid.theory) ++ terms_at mid.graph nodes) why (record {
-            sound = keeps.sound;
-            underway = underway;
-            given = gives fs among given;
-            literals_are = are;
-            more = [];
-            ask = asks ∙ (ap (flat_map asked) (sym comes.items)
-                ∙ sym (append-nil (flat_map asked (items_in (shared_in exit)))));
-            terms_are = nodes_given fs among given;
-            others_are = all_given fs among given;
-            barred = barred;
-            memory = not_memory;
-          });
-    }
+    stopped why not_memory underway barred fs literals among given are asks =
+        stops_is_stopped fs exit literals (terms_at mid.graph nodes)
+        (number_terms (numbers_in mid.theory) ++ terms_at mid.graph nodes) why (record {
+          sound = keeps.sound;
+          underway = underway;
+          given = gives fs among given;
+          literals_are = are;
+          more = [];
+          ask = asks ∙ (ap (flat_map asked) (sym comes.items)
+              ∙ sym (append-nil (flat_map asked (items_in (shared_in exit)))));
+          terms_are = nodes_given fs among given;
+          others_are = all_given fs among given;
+          barred = barred;
+          memory = not_memory;
+        })
 
     pub stops : (why : Stop) → StepEnds (shared_in exit) (IsShared (shared_in exit)) (Err why)
         → UnlessMemory Barred why → UnlessMemory (StopsPlay entry exit f) why
