@@ -193,8 +193,11 @@ brings_both u v w first middle last ts us ss rs a b = record {
   shared = b.shared;
   terms_are = b.terms_are ∙ (ap (λ seen. fold with_once seen us) a.terms_are
       ∙ sym (fold-append with_once (terms_in u.graph) ts us));
-  nodes = (a.nodes.0 ++ b.nodes.0, b.nodes.1 ∙ (ap (λ ns. ns ++ b.nodes.0) a.nodes.1
-      ∙ append_assoc u.graph.nodes a.nodes.0 b.nodes.0));
+  nodes = (
+    a.nodes.0 ++ b.nodes.0,
+    b.nodes.1 ∙ (ap (λ ns. ns ++ b.nodes.0) a.nodes.1
+        ∙ append_assoc u.graph.nodes a.nodes.0 b.nodes.0),
+  );
   literals = b.literals ∙ a.literals;
   numbers = record {
     more = a.numbers.more ++ b.numbers.more;

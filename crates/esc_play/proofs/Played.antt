@@ -1,6 +1,6 @@
 -- The terms of a formula came in play, and what becomes arithmetic by them was made so: what the
 -- whole call leaves and answers.
-use Rattle.std.proofs.Common.{◌≡◌, ◌≢◌, ℕ, true, inl, inr, List, [], ◌∷◌, ◌++◌, length, map, take}
+use Rattle.std.proofs.Common.{◌≡◌, ◌≢◌, ℕ, true, inl, inr, List, [], ◌++◌, length, map, take}
 use Rattle.std.proofs.Common.{append-nil, ap, ap₂, sym, subst, ◌∙◌}
 use Rattle.std.specs.Prelude.{Ok, Err}
 use Rattle.std.specs.List.{All, Contains, flat_map, fold}
@@ -155,10 +155,10 @@ module _ (entry mid : Sharing Simplex) (f : Formula) (closed : is_closed f ≡ t
             ∙ sym (active_terms-push fs f closed)));
         numbers = λ t. (
           (λ h. elim (Contains-append_cases (number_terms (numbers_in entry.theory))
-          (number_terms adds.more) t (subst (λ ts. Contains ts t) numbers_are h)) [
-            | inl old ↦ was_number fs f t ((same.numbers t).0 old)
-            | inr new ↦ new_number fs f closed t (made_there t new)
-          ]),
+              (number_terms adds.more) t (subst (λ ts. Contains ts t) numbers_are h)) [
+                | inl old ↦ was_number fs f t ((same.numbers t).0 old)
+                | inr new ↦ new_number fs f closed t (made_there t new)
+              ]),
           (λ h. elim (number_or_new fs f t h) [
             | inl old ↦ old_there t ((same.numbers t).1 old)
             | inr new ↦ new_there t new
