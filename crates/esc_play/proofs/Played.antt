@@ -2,7 +2,7 @@
 -- whole call leaves and answers.
 use Rattle.std.proofs.Common.{◌≡◌, ◌≢◌, ℕ, true, inl, inr, List, [], ◌++◌, length, map, take}
 use Rattle.std.proofs.Common.{append-nil, ap, ap₂, sym, subst, ◌∙◌}
-use Rattle.std.specs.Prelude.{Ok, Err}
+use Rattle.std.specs.Prelude.{IfErr, OnOk, Result, Ok, Err}
 use Rattle.std.specs.List.{All, Contains, flat_map, fold}
 use Rattle.std.proofs.Math.Seq.{take-append_seam}
 use Rattle.std.proofs.lemmas.List.{length-map, map-append}
@@ -168,20 +168,16 @@ module _ (entry mid : Sharing Simplex) (f : Formula) (closed : is_closed f ≡ t
 
     -- ---- it ends
 
-    pub ends_ok : (state : State)
-        → StepEnds (shared_in exit) (IsShared (shared_in exit)) (Ok state)
-        → All (IsNumber (numbers_in exit.theory)) nodes
-        → PlayEnds (shared_in entry) (shared_in exit) f (Ok state)
-    ends_ok Open is all = (comes, is, plays is all)
-    ends_ok Closed none all = (comes, none)
-
-    pub ends_err : (why : Stop)
-        → StepEnds (shared_in exit) (IsShared (shared_in exit)) (Err why)
-        → PlayEnds (shared_in entry) (shared_in exit) f (Err why)
-    ends_err (stop.Spill j) underway = (comes, underway)
-    ends_err (stop.Form t) underway = (comes, underway)
-    ends_err (stop.Pivots j) underway = (comes, underway)
-    ends_err stop.Memory underway = tt
+    pub ends : (result : Result State Stop)
+        → StepEnds (shared_in exit) (IsShared (shared_in exit)) result
+        → OnOk result (All (IsNumber (numbers_in exit.theory)) nodes)
+        → PlayEnds (shared_in entry) (shared_in exit) f result
+    ends (Ok Open) is all = (comes, is, plays is all)
+    ends (Ok Closed) none all = (comes, none)
+    ends (Err (stop.Spill j)) underway all = (comes, underway)
+    ends (Err (stop.Form t)) underway all = (comes, underway)
+    ends (Err (stop.Pivots j)) underway all = (comes, underway)
+    ends (Err stop.Memory) underway all = tt
 
     -- ---- it is stopped
 
@@ -207,12 +203,19 @@ module _ (entry mid : Sharing Simplex) (f : Formula) (closed : is_closed f ≡ t
           memory = not_memory;
         })
 
-    pub stops : (why : Stop) → StepEnds (shared_in exit) (IsShared (shared_in exit)) (Err why)
+    stops_with : (why : Stop) → StepEnds (shared_in exit) (IsShared (shared_in exit)) (Err why)
         → UnlessMemory Barred why → UnlessMemory (StopsPlay entry exit f) why
-    stops (stop.Spill j) underway barred = stopped (stop.Spill j) (λ e. cc) underway barred
-    stops (stop.Form t) underway barred = stopped (stop.Form t) (λ e. cc) underway barred
-    stops (stop.Pivots j) underway barred = stopped (stop.Pivots j) (λ e. cc) underway barred
-    stops stop.Memory underway barred = tt
+    stops_with (stop.Spill j) underway barred = stopped (stop.Spill j) (λ e. cc) underway barred
+    stops_with (stop.Form t) underway barred = stopped (stop.Form t) (λ e. cc) underway barred
+    stops_with (stop.Pivots j) underway barred = stopped (stop.Pivots j) (λ e. cc) underway barred
+    stops_with stop.Memory underway barred = tt
+
+    pub stops : (result : Result State Stop)
+        → StepEnds (shared_in exit) (IsShared (shared_in exit)) result
+        → IfErr result (UnlessMemory Barred)
+        → IfErr result (UnlessMemory (StopsPlay entry exit f))
+    stops (Ok state) done barred = barred
+    stops (Err why) underway barred = stops_with why underway barred
 
 -- ---- memory is wanting
 
@@ -220,3 +223,8 @@ pub gives_same : (entry mid : Sharing Simplex) (f : Formula)
     → mid ≡ record entry { graph = mid.graph } → GivesMore entry.theory mid.theory f
 gives_same entry mid f rest fs among given =
     subst (IsGivenBy fs) (sym (ap (λ (s : Sharing Simplex). s.theory) rest)) given
+
+pub sound_same : (entry mid : Sharing Simplex) → mid ≡ record entry { graph = mid.graph }
+    → IsSimplex entry.theory → IsSimplex mid.theory
+sound_same entry mid rest =
+    subst IsSimplex (sym (ap (λ (s : Sharing Simplex). s.theory) rest))
