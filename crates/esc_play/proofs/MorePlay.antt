@@ -1,7 +1,7 @@
 -- The terms in play for formulas and one more, and which of them are arithmetic.
 use Rattle.std.proofs.Common.{◌≡◌, ◌⊎◌, inl, inr, true, List, [], ◌∷◌, ◌++◌, refl, ap, sym, subst}
 use Rattle.std.proofs.Common.{cond, ◌∙◌}
-use Rattle.std.specs.List.{All, Contains, filter, flat_map, fold, list_all}
+use Rattle.std.specs.List.{Contains, filter, flat_map, fold, list_all}
 use Rattle.std.proofs.lemmas.Bool.{and_parts}
 use Rattle.std.proofs.lemmas.List.Elements.{Contains-append_cases, Contains-append_left}
 use Rattle.std.proofs.lemmas.List.Elements.{Contains-push}
