@@ -1,5 +1,6 @@
 -- A walk brings terms, and then more of them.
-use Rattle.std.proofs.Common.{◌≡◌, ℕ, suc, ◌<◌, ◌⊎◌, inl, inr, Bool, true, false, List, [], ◌∷◌, ◌++◌, length}
+use Rattle.std.proofs.Common.{◌≡◌, ℕ, suc, ◌<◌, ◌⊎◌, inl, inr, Bool, true, false, List}
+use Rattle.std.proofs.Common.{[], ◌∷◌, ◌++◌, length}
 use Rattle.std.proofs.Common.{append_assoc, if◌then◌else◌, refl, ap, ap₂, sym, subst, ◌∙◌}
 use Rattle.std.proofs.Common.{◌+◌, arith, get_or, take}
 use Rattle.std.specs.Prelude.{OnOk, Result, Ok, Err}

@@ -9,8 +9,8 @@ use Rattle.esc_outcome.specs.JamLaws.{shared_in}
 use Rattle.esc_play.specs.WalkingInside.{sides_in}
 use Rattle.esc_play.proofs.Bringing.{brings_as, brings_more, brings_nothing, passes_as}
 use Rattle.esc_play.proofs.Bringing.{passes_both, walks_both, walks_nothing}
-use Rattle.esc_play.proofs.FormulaForms.{has-Distinct, has-Eq, has-Less, has-both, has-none, has-part}
-use Rattle.esc_play.proofs.FormulaForms.{has-parts}
+use Rattle.esc_play.proofs.FormulaForms.{has-Distinct, has-Eq, has-Less, has-both, has-none}
+use Rattle.esc_play.proofs.FormulaForms.{has-part, has-parts}
 use Rattle.esc_play.proofs.walk.+add_formula.Goals as goal
 
 -- ---- what the parts ask for
@@ -96,22 +96,26 @@ add_formula-add_places-requires-clause-ground g t c =
 pub add_formula-returns-in-Eq-clause-brings : goal.add_formula-returns-in-Eq-clause-brings
 add_formula-returns-in-Eq-clause-brings g t c =
     let has = has-Eq c.args.formula.now c.in-Eq.left c.in-Eq.right c.in-Eq.is in
-    passes_as c.add_two.result (shared_in c.args.sharing.now) (shared_in c.add_two.new.sharing)
+    passes_as c.add_two.result (shared_in c.args.sharing.now)
+    (shared_in c.add_two.new.sharing)
     c.args.numbers.now.items c.add_two.new.numbers.items _ (terms_of c.args.formula.now) _
     (sides_in c.args.formula.now) c.add_two.ensures.brings has.terms_are has.sides_are
 
 pub add_formula-returns-in-Less-clause-brings : goal.add_formula-returns-in-Less-clause-brings
 add_formula-returns-in-Less-clause-brings g t c =
     let has = has-Less c.args.formula.now c.in-Less.left c.in-Less.right c.in-Less.is in
-    passes_as c.add_two-in-Less.result (shared_in c.args.sharing.now) (shared_in c.add_two-in-Less.new.sharing)
+    passes_as c.add_two-in-Less.result (shared_in c.args.sharing.now)
+    (shared_in c.add_two-in-Less.new.sharing)
     c.args.numbers.now.items c.add_two-in-Less.new.numbers.items _ (terms_of c.args.formula.now) _
     (sides_in c.args.formula.now) c.add_two-in-Less.ensures.brings has.terms_are has.sides_are
 
-pub add_formula-returns-in-Distinct-clause-brings : goal.add_formula-returns-in-Distinct-clause-brings
+pub add_formula-returns-in-Distinct-clause-brings :
+    goal.add_formula-returns-in-Distinct-clause-brings
 add_formula-returns-in-Distinct-clause-brings g t c =
     let has = has-Distinct c.args.formula.now c.in-Distinct.terms c.as_slice.result.now
     c.in-Distinct.is c.as_slice.ensures in
-    passes_as c.add_places.result (shared_in c.args.sharing.now) (shared_in c.add_places.new.sharing)
+    passes_as c.add_places.result (shared_in c.args.sharing.now)
+    (shared_in c.add_places.new.sharing)
     c.args.numbers.now.items c.add_places.new.numbers.items _ (terms_of c.args.formula.now) _
     (sides_in c.args.formula.now) c.add_places.ensures.brings has.terms_are has.sides_are
 
@@ -119,15 +123,18 @@ pub add_formula-returns-in-Not-clause-brings : goal.add_formula-returns-in-Not-c
 add_formula-returns-in-Not-clause-brings g t c =
     let has = has-part c.args.formula.now c.in-Not.part c.get-in-Not.result.now c.in-Not.is
     c.get-in-Not.ensures in
-    passes_as c.add_formula-in-Not.result (shared_in c.args.sharing.now) (shared_in c.add_formula-in-Not.new.sharing)
-    c.args.numbers.now.items c.add_formula-in-Not.new.numbers.items _ (terms_of c.args.formula.now) _
+    passes_as c.add_formula-in-Not.result (shared_in c.args.sharing.now)
+    (shared_in c.add_formula-in-Not.new.sharing)
+    c.args.numbers.now.items c.add_formula-in-Not.new.numbers.items _
+    (terms_of c.args.formula.now) _
     (sides_in c.args.formula.now) c.add_formula-in-Not.ensures.brings has.terms_are has.sides_are
 
 pub add_formula-returns-in-And-clause-brings : goal.add_formula-returns-in-And-clause-brings
 add_formula-returns-in-And-clause-brings g t c =
     let has = has-parts c.args.formula.now c.in-And.parts c.as_slice-in-And.result.now
     c.in-And.is c.as_slice-in-And.ensures in
-    passes_as c.add_formulas.result (shared_in c.args.sharing.now) (shared_in c.add_formulas.new.sharing)
+    passes_as c.add_formulas.result (shared_in c.args.sharing.now)
+    (shared_in c.add_formulas.new.sharing)
     c.args.numbers.now.items c.add_formulas.new.numbers.items _ (terms_of c.args.formula.now) _
     (sides_in c.args.formula.now) c.add_formulas.ensures.brings has.terms_are has.sides_are
 
@@ -163,7 +170,8 @@ add_formula-returns-in-True-4-clause-brings g t c =
     (brings_nothing (shared_in c.args.sharing.now) c.args.numbers.now.items c.requires.shared)
     has.terms_are has.sides_are
 
-pub add_formula-returns-in_ok-add_formula-in-Implies-clause-brings : goal.add_formula-returns-in_ok-add_formula-in-Implies-clause-brings
+pub add_formula-returns-in_ok-add_formula-in-Implies-clause-brings :
+    goal.add_formula-returns-in_ok-add_formula-in-Implies-clause-brings
 add_formula-returns-in_ok-add_formula-in-Implies-clause-brings g t c =
     let has = has-both c.args.formula.now c.in-Implies.left c.in-Implies.right c.get.result.now
     c.get-in-Implies.result.now c.in-Implies.is c.get.ensures c.get-in-Implies.ensures in
@@ -181,7 +189,8 @@ add_formula-returns-in_ok-add_formula-in-Implies-clause-brings g t c =
 
 -- ---- what they leave
 
-pub add_formula-returns-in_ok-add_formula-in-Implies-clause-walks : goal.add_formula-returns-in_ok-add_formula-in-Implies-clause-walks
+pub add_formula-returns-in_ok-add_formula-in-Implies-clause-walks :
+    goal.add_formula-returns-in_ok-add_formula-in-Implies-clause-walks
 add_formula-returns-in_ok-add_formula-in-Implies-clause-walks g t c =
     walks_both (part_carried g.R.CarriesNodes.carried_node g.R.CarriesGroups.carried_group
     g.R.CarriesShare.carried_share g.R.Carries.carried) c.args.trail.now.records
@@ -220,7 +229,8 @@ add_formulas-formulas-init g t c =
     record {
       brings = brings_nothing (shared_in c.args.sharing.now) c.args.numbers.now.items
           c.requires.shared;
-      walks = walks_nothing (part_carried g.R.CarriesNodes.carried_node g.R.CarriesGroups.carried_group
+      walks = walks_nothing (part_carried g.R.CarriesNodes.carried_node
+          g.R.CarriesGroups.carried_group
           g.R.CarriesShare.carried_share g.R.Carries.carried) c.args.trail.now.records
           c.args.sharing.now;
     }
@@ -240,7 +250,8 @@ add_formulas-formulas-preserved g t c =
           c.add_formula.ensures.walks;
     }
 
-pub add_formulas-returns-in_err-add_formula-clause-walks : goal.add_formulas-returns-in_err-add_formula-clause-walks
+pub add_formulas-returns-in_err-add_formula-clause-walks :
+    goal.add_formulas-returns-in_err-add_formula-clause-walks
 add_formulas-returns-in_err-add_formula-clause-walks g t c =
     walks_both (part_carried g.R.CarriesNodes.carried_node g.R.CarriesGroups.carried_group
     g.R.CarriesShare.carried_share g.R.Carries.carried) c.args.trail.now.records
