@@ -1,0 +1,5 @@
+pub mod Atom
+pub mod Book
+pub mod BookInside
+pub mod BookUndo
+pub mod LiveInside
