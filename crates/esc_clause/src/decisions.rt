@@ -77,6 +77,7 @@ impl Decisions {
 
     /// What the decisions say of an item, or else the judge.
     pub(crate) fn judge<J: Judge>(&self, judge: &J, item: Occurrence) -> Truth
+        requires ready { J.ready judge.now }
         ensures { result ≡ judged_by (J.judged judge.now) self.now item }
     {
         match self.first.get(&(item.fact, item.place)) {

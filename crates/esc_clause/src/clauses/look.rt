@@ -26,6 +26,7 @@ pub(crate) enum Look {
 impl Clauses {
     /// What the decisions say of an item, or else the judge.
     fn judge<J: Judge>(&self, judge: &J, item: Occurrence) -> Truth
+        requires ready { J.ready judge.now }
         ensures { result ≡ judged_by (J.judged judge.now) self.now.decisions item }
     {
         self.decisions.judge(judge, item)
@@ -33,6 +34,7 @@ impl Clauses {
 
     /// Whether the item is left and fails.
     pub(crate) fn fails<J: Judge>(&self, judge: &J, member: Member) -> bool
+        requires ready { J.ready judge.now }
         ensures { result ≡ is_failing (judged_by (J.judged judge.now) self.now.decisions) member }
     {
         !member.gone && self.judge(judge, member.item).is_no()
@@ -40,6 +42,7 @@ impl Clauses {
 
     /// Whether the item is left and does not fail.
     fn stays<J: Judge>(&self, judge: &J, member: Member) -> bool
+        requires ready { J.ready judge.now }
         ensures { result ≡ stays (judged_by (J.judged judge.now) self.now.decisions) member }
     {
         !member.gone && !self.judge(judge, member.item).is_no()
@@ -47,6 +50,7 @@ impl Clauses {
 
     /// Looks at each item that is left, in order.
     fn scan<J: Judge>(&self, judge: &J, members: &[Member]) -> Look
+        requires ready { J.ready judge.now }
         ensures { LookTells (judged_by (J.judged judge.now) self.now.decisions) members.now result }
     {
         let mut told = Refined::Empty;
@@ -78,6 +82,7 @@ impl Clauses {
 
     /// Whether the item that held last is left and has its sign.
     fn still_holds<J: Judge>(&self, judge: &J, members: &[Member], hint: usize) -> bool
+        requires ready { J.ready judge.now }
         ensures { OnTrue result (is_satisfied (judged_by (J.judged judge.now) self.now.decisions)
             (items_left members.now) ≡ true) }
     {
@@ -93,7 +98,8 @@ impl Clauses {
 
     /// Looks at a clause, first at the item that held last.
     pub(crate) fn look<J: Judge>(&self, judge: &J, at: usize) -> Look
-        requires { at < length self.now.clauses }
+        requires there { at < length self.now.clauses }
+        requires ready { J.ready judge.now }
         ensures { LookTells (judged_by (J.judged judge.now) self.now.decisions)
             (clause_at self.now at) result }
     {
@@ -107,6 +113,7 @@ impl Clauses {
 
     /// The first item that is left and does not fail.
     fn first_left<J: Judge>(&self, judge: &J, members: &[Member]) -> Option<Occurrence>
+        requires ready { J.ready judge.now }
         ensures { result ≡ first (left_of (judged_by (J.judged judge.now) self.now.decisions)
             (items_left members.now)) }
     {
@@ -121,7 +128,8 @@ impl Clauses {
 
     /// Whether an item of a clause has its sign.
     fn is_satisfied<J: Judge>(&self, judge: &J, at: usize) -> bool
-        requires { at < length self.now.clauses }
+        requires there { at < length self.now.clauses }
+        requires ready { J.ready judge.now }
         ensures { result ≡ is_satisfied (judged_by (J.judged judge.now) self.now.decisions)
             (items_left (clause_at self.now at)) }
     {
@@ -136,6 +144,7 @@ impl Clauses {
     /// by the judge. There is none exactly where each clause is satisfied, if each that is not has
     /// an item left.
     pub fn next_split<J: Judge>(&self, judge: &J) -> Option<Occurrence>
+        requires ready { J.ready judge.now }
         ensures { result ≡ next_split (J.judged judge.now) self.now }
     {
         'clauses: for at in 0..self.clauses.len() {

@@ -54,7 +54,8 @@ impl Clauses {
         at: usize,
         trail: &mut Trail<R>,
     ) -> Result<(), AllocError>
-        requires { at < length self.old.clauses }
+        requires there { at < length self.old.clauses }
+        requires ready { J.ready judge.now }
         ensures ok { OnOk result (self.new ≡ with_clause self.old at
             (thinned (judged_by (J.judged judge.now) self.old.decisions) (clause_at self.old at))) }
         ensures err { OnErr result (self.new ≡ self.old) }
@@ -79,7 +80,8 @@ impl Clauses {
         at: usize,
         trail: &mut Trail<R>,
     ) -> Result<Refined, AllocError>
-        requires { at < length self.old.clauses }
+        requires there { at < length self.old.clauses }
+        requires ready { J.ready judge.now }
         ensures exact { IfOk result (λ r. r
             ≡ refined_among (waiting_of (judged_by (J.judged judge.now) self.old.decisions)
             (clause_at self.old at ∷ []))) }
@@ -111,6 +113,7 @@ impl Clauses {
         judge: &J,
         trail: &mut Trail<R>,
     ) -> Result<Refined, AllocError>
+        requires ready { J.ready judge.now }
         ensures exact { IfOk result (λ r. r ≡ refined (J.judged judge.now) self.old) }
         ensures ok { OnOk result (self.new ≡ lighter (J.judged judge.now) self.old) }
         ensures err { OnErr result (IsLighter (J.judged judge.now) self.old self.new) }

@@ -26,11 +26,11 @@ members-preserved g c =
     elim c.if-fails.branch [
       | then-fails w ↦
           rw (w.self-is) (rw (w.trail-is) (Dropping-drops g.R.Carries.carried truth c.args.self.now
-          _ c.args.at c.members.self c.members.trail place _ _ c.members.invariant c.requires within
-          (sym said ∙ w.if-fails.true) w.drop_item.ensures.dropped w.drop_item.ensures.spare
+          _ c.args.at c.members.self c.members.trail place _ _ c.members.invariant c.requires.there
+          within (sym said ∙ w.if-fails.true) w.drop_item.ensures.dropped w.drop_item.ensures.spare
           w.drop_item.ensures.undo))
       | else-fails w ↦
           rw (w.self-is) (rw (w.trail-is) (Dropping-keeps g.R.Carries.carried truth c.args.self.now
-          _ c.args.at c.members.self c.members.trail place c.members.invariant c.requires within
-          (sym said ∙ w.if-fails.false)))
+          _ c.args.at c.members.self c.members.trail place c.members.invariant c.requires.there
+          within (sym said ∙ w.if-fails.false)))
     ]
