@@ -1,0 +1,5 @@
+mod HeadsLevels
+mod Indexing
+mod Laying
+mod Nested
+mod Writings

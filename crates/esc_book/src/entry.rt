@@ -1,10 +1,9 @@
 //! Entries of tables.
 
+use crate::group::Group;
 use esc_egraph::Node;
 use esc_term::Formula;
 use sqlite_items::Items;
-
-pub type Nodes = Items<Node>;
 
 /// The entries of one formula, an entry for each occurrence, in order; but the pairs of a
 /// distinction have none.
@@ -22,7 +21,7 @@ pub enum Kind {
     Labelled,
     Equation(Node, Node),
     Order(Node, Node),
-    Distinction(Nodes),
+    Distinction(Group),
     Quantified(Formula),
 }
 

@@ -6,6 +6,7 @@ mod atom;
 mod book;
 mod entry;
 mod expanded;
+mod group;
 mod laws;
 mod live;
 mod page;
@@ -14,7 +15,8 @@ mod writing;
 
 pub use atom::Atom;
 pub use book::Book;
-pub use entry::{Entry, Kind, Nodes, Page};
+pub use entry::{Entry, Kind, Page};
 pub use expanded::Expanded;
+pub use group::{Group, Nodes};
 pub use laws::book_laws;
 pub use record::BookRec;
