@@ -6,6 +6,7 @@ use Rattle.std.specs.List.{flat_map, slice_get}
 use Rattle.esc_term.specs.declared.formula.Formula.{Formula}
 use Rattle.esc_term.specs.declared.formula.Formula.TheViews.{out-Formula}
 use Rattle.esc_book.specs.Book.{Outline, form_at, heads_of, laid, own}
+use Rattle.esc_book.specs.ReadingInside.{begin_at}
 
 
 pub length-laid : (b n : ℕ) (fs : List Formula) → length (laid b n fs) ≡ length fs
@@ -25,10 +26,6 @@ laid-append b n (f ∷ fs) gs =
     ap (λ os. record { begin = b; next = n + length (heads_of f); form = form_at (out-Formula f) }
     ∷ os) (laid-append (b + length (own f)) (n + 1) fs gs
     ∙ ap₂ (λ x y. laid (b + length (own f)) (n + 1) fs ++ laid x y gs) place index)
-
--- where the formula at a place of the list has its occurrence
-abbrev pub begin_at : List Formula → ℕ → ℕ
-begin_at hs i = length (flat_map own (take i hs))
 
 pub laid-get : (b n : ℕ) (hs : List Formula) (i : ℕ) (f : Formula) → slice_get hs i ≡ Some f
     → slice_get (laid b n hs) i ≡ Some (record {

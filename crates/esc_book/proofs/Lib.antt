@@ -2,4 +2,6 @@ mod HeadsLevels
 mod Indexing
 mod Laying
 mod Nested
+mod Pairs
+mod Reading
 mod Writings

@@ -17,6 +17,7 @@ use Rattle.esc_cover.specs.Atoms.{pair_equations}
 use Rattle.esc_clause.specs.Occurrences.{occurrences_of}
 use Rattle.esc_clause.proofs.OccurrencesLevels as occurrences
 use Rattle.esc_book.specs.Book.{heads_of, own, pairs_form}
+use Rattle.esc_book.specs.ReadingInside.{AreThere}
 use Rattle.esc_book.proofs.HeadsLevels as heads
 
 -- wherever a formula stands in the list, its own list stands from there on
@@ -240,10 +241,6 @@ get-drop [] (suc n) = refl
 get-drop (x ∷ hs) (suc n) = get-drop hs n
 
 -- ---- parts side by side from a place of a list on
-
-pub record AreThere (hs : List Formula) (n : ℕ) (parts : List Formula) : Type 0 where
-  pub rest : List Formula
-  pub is : drop n hs ≡ flat_map heads_of parts ++ rest
 
 -- what stands behind a formula are its parts
 pub parts_there : (hs : List Formula) (n : ℕ) (f : Formula) (parts : List Formula) → IsWhole hs

@@ -12,10 +12,11 @@ use Rattle.esc_term.specs.declared.formula.Formula.TheFolds.{para-Formula}
 use Rattle.esc_term.specs.declared.formula.Formula.TheViews.{out-Formula}
 use Rattle.esc_term.specs.declared.formula.Quant.{Quant}
 use Rattle.esc_cover.specs.Atoms.{pair_equations}
-use Rattle.esc_clause.specs.Occurrences.{formula_at}
+use Rattle.esc_term.specs.declared.formula.Item.{Item}
+use Rattle.esc_clause.specs.Occurrences.{formula_at, item_at}
 use Rattle.esc_clause.specs.declared.occurrence.Occurrence.{Occurrence}
 use Rattle.esc_egraph.specs.Graph.{Graph}
-use Rattle.esc_sharing.specs.Nodes.{node_count, node_term}
+use Rattle.esc_sharing.specs.Nodes.{node_count, node_term, terms_in}
 use Rattle.esc_book.specs.declared.entry.Entry.{Entry}
 use Rattle.esc_book.specs.declared.entry.Kind.{Kind}
 use Rattle.esc_book.specs.declared.entry.Kind.TheVariants as kind
@@ -167,7 +168,11 @@ pub record IsLiveOccurrence (v : BookView) (at : Occurrence) : Type 0 where
 abbrev pub live_formulas : BookView → List Formula
 live_formulas v = filter_map (slice_get v.logged) v.live
 
--- more nodes leave a book as it is
+-- the items of those occurrences that are there
+abbrev pub items_of : BookView → List Occurrence → List Item
+items_of v = filter_map (item_at v.logged)
+
+-- more terms leave a book as it is
 abbrev pub BookStays : Type 0
-BookStays = (g h : Graph) (v : BookView) → IsBook g v → (more : List _) → h.nodes ≡ g.nodes ++ more
-    → IsBook h v
+BookStays = (g h : Graph) (v : BookView) (more : List Term) → IsBook g v
+    → terms_in h ≡ terms_in g ++ more → IsBook h v

@@ -3,5 +3,7 @@ pub mod Book
 pub mod BookInside
 pub mod BookUndo
 pub mod GroupInside
+pub mod Judging
 pub mod LiveInside
+pub mod ReadingInside
 pub mod WritingInside

@@ -3,7 +3,7 @@
 ghost use Rattle.esc_book.specs.Atom.{LiteralIsAtom};
 ghost use Rattle.esc_book.specs.Book.{BookStays};
 
-/// More nodes leave a book as it is, and what expands to a literal is an atom.
+/// More terms leave a book as it is, and what expands to a literal is an atom.
 pub fn book_laws()
     ensures stays { BookStays }
     ensures literal { LiteralIsAtom }
