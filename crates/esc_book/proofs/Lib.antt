@@ -1,5 +1,8 @@
+mod FormKinds
+mod Headed
 mod HeadsLevels
 mod Indexing
+mod Inside
 mod Laying
 mod Nested
 mod Pairs

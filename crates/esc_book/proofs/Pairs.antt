@@ -1,8 +1,8 @@
 -- The pairs of a group by their numbers.
 use Rattle.std.proofs.Common.{◌≡◌, ℕ, suc, zero, ◌+◌, ◌-◌, ◌*◌, ◌<◌, ◌≤◌, List, [], ◌∷◌, ◌++◌, Some}
 use Rattle.std.proofs.Common.{None, Option, length, map, drop, get_or, refl, ap, ap₂, sym, subst}
-use Rattle.std.proofs.Common.{◌∙◌, arith, length-append}
-use Rattle.std.proofs.lemmas.List.{length-map, map-append}
+use Rattle.std.proofs.Common.{◌∙◌, append_assoc, arith, length-append}
+use Rattle.std.proofs.lemmas.List.{append-nil, length-map, map-append}
 use Rattle.std.specs.List.{slice_get}
 use Rattle.std.specs.Option.{option_map}
 use Rattle.esc_term.specs.declared.term.Term.{Term}
@@ -104,3 +104,25 @@ pair_at start k (a ∷ nodes) (suc i) l from to =
     (omega (arith, from, again)) (λ more. omega (arith, again, to (omega (arith, more))))
     ∙ ap (λ n. option_map (λ c. (get_or nodes i 0, c)) (slice_get (drop (suc i) nodes)
     (n - get_or (rows_from (start + length nodes) (length nodes)) i 0))) again))
+
+-- ---- how rows are made
+
+pub rows_step : (rows : List ℕ) (start left end n : ℕ) → 0 < left → end ≡ start + (left - 1)
+    → rows ++ rows_from start left ≡ rows_from 0 n
+    → (rows ++ (start ∷ [])) ++ rows_from end (left - 1) ≡ rows_from 0 n
+rows_step rows start zero end n some is whole = absurd (omega (arith, some))
+rows_step rows start (suc left) end n some is whole =
+    let next : end ≡ start + left = omega (arith, is) in
+    let rest : suc left - 1 ≡ left = omega arith in
+    append_assoc rows (start ∷ []) (rows_from end (suc left - 1))
+    ∙ (ap₂ (λ e m. rows ++ (start ∷ rows_from e m)) next rest ∙ whole)
+
+pub rows_done : (rows : List ℕ) (start left n : ℕ) → left ≤ 0
+    → rows ++ rows_from start left ≡ rows_from 0 n → rows ≡ rows_from 0 n
+rows_done rows start zero n none whole = sym (append-nil rows) ∙ whole
+rows_done rows start (suc left) n none whole = absurd (omega (arith, none))
+
+pub pair_count-more : (n : ℕ) → pair_count (n + 1) ≡ n + pair_count n
+pair_count-more n =
+    let next : n + 1 ≡ suc n = omega arith in
+    ap pair_count next

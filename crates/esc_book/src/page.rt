@@ -95,7 +95,8 @@ pub(crate) fn parts_of(
             place: begin_of(page, index),
             positive,
         })?;
-        index = next_of(page, index);
+        let next = next_of(page, index);
+        index = if next > index { next } else { to };
     }
     Ok(parts)
 }
