@@ -1,7 +1,6 @@
 -- An order of two nodes' terms is a literal exactly where it was asserted of the two nodes, since
 -- one term has one node.
 use Rattle.std.proofs.Common.{◌≡◌, ℕ, ◌<◌, Bool, true, false, List, map, refl, ap, ap₂, sym, subst}
-use Rattle.std.proofs.Common.{◌∙◌}
 use Rattle.std.specs.List.{All, Contains, list_any}
 use Rattle.std.proofs.lemmas.Bool.{eq-eqb, eqb-true}
 use Rattle.std.proofs.lemmas.List.Elements.{All-contains}
@@ -10,7 +9,7 @@ use Rattle.esc_term.specs.declared.formula.Formula.TheVariants as formula
 use Rattle.esc_term.specs.declared.formula.Item.{Item}
 use Rattle.esc_cover.specs.Cover.{is_literal}
 use Rattle.esc_cover.proofs.TestLemmas.{and_both, and_left, and_right, any_at, any_found}
-use Rattle.esc_cover.proofs.TestLemmas.{false_from, literal_at, literal_found, not_both}
+use Rattle.esc_cover.proofs.TestLemmas.{literal_at, literal_found}
 use Rattle.esc_nodes.proofs.NodeTerms.{terms_are_once}
 use Rattle.esc_egraph.specs.Graph.{Graph, IsGraph}
 use Rattle.esc_sharing.specs.Literals.{equality, item_of, order}

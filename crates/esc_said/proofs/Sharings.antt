@@ -3,7 +3,6 @@ use Rattle.std.proofs.Common.{◌≡◌, ℕ, ◌<◌, ◌↔◌, Bool, List, ma
 use Rattle.std.specs.List.{All, Contains}
 use Rattle.std.proofs.lemmas.List.Elements.{All-contains}
 use Rattle.esc_term.specs.declared.term.Term.{Term}
-use Rattle.esc_term.specs.declared.formula.Formula.TheVariants as formula
 use Rattle.esc_term.specs.declared.formula.Formula.{out-Formula}
 use Rattle.esc_term.specs.declared.formula.Formula.TheVariants.{rolls-Less}
 use Rattle.esc_term.specs.declared.formula.Formula.TheOpen.{Formula-F}
@@ -11,19 +10,15 @@ use Rattle.esc_term.specs.declared.formula.Formula.TheViews.{out-roll-Formula}
 use Rattle.esc_term.specs.declared.formula.Item.{Item}
 use Rattle.esc_egraph.specs.Graph.{Graph, IsGraph}
 use Rattle.esc_simplex.specs.View.{Allows, IsSimplex, numbers_in}
-use Rattle.esc_simplex.specs.declared.simplex.Simplex.{Simplex}
 use Rattle.esc_sharing.specs.Literals.{AreSides, group_item, item_of, order}
 use Rattle.esc_sharing.specs.Nodes.{node_count, node_term}
-use Rattle.esc_sharing.specs.Shared.{IsShared, Shared, items_in, literals_in, seen}
+use Rattle.esc_sharing.specs.Shared.{IsShared, Shared, literals_in, seen}
 use Rattle.esc_sharing.specs.Unquantified.{HaveSameUnquantified, is_quantified, is_quantified_form}
 use Rattle.esc_sharing.specs.declared.literal.Lit.{Lit}
-use Rattle.esc_sharing.specs.declared.sharing.Sharing.{Sharing}
 use Rattle.esc_sharing.proofs.Consistent.{asserted_literal, of_literal}
 use Rattle.esc_sharing.proofs.Lists.{All-each, Contains-map, Contains-of_map}
 use Rattle.esc_said.specs.HeldApart.{AreHeldApart}
-use Rattle.esc_said.specs.Speaking.{HasSides, HaveSameOrders, IsSaying, IsSayingOf, SharingSpeaks}
-use Rattle.esc_said.specs.Speaking.{SpeaksFor}
-use Rattle.esc_said.specs.declared.saying.Saying.{Saying}
+use Rattle.esc_said.specs.Speaking.{HasSides, HaveSameOrders, SharingSpeaks}
 use Rattle.esc_said.proofs.Holding.{held_apart, less_no_distinct}
 
 order_unquantified : (s t : Term) (p : Bool) → is_quantified (order s t p) ≡ false

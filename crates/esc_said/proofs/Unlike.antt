@@ -1,7 +1,6 @@
 -- What is said of the terms at any two places, after one more place.
-use Rattle.std.proofs.Common.{◌≡◌, ℕ, ◌+◌, ◌<◌, ◌≤◌, Bool, true, false, ◌&&◌, ◌||◌, List, ◌∷◌, length}
-use Rattle.std.proofs.Common.{get_or, take, drop, ◌-◌, map, refl, ap, sym, ◌∙◌}
-use Rattle.std.specs.List.{list_all, list_any}
+use Rattle.std.proofs.Common.{◌≡◌, ℕ, ◌+◌, ◌<◌, ◌≤◌, Bool, true, false, ◌&&◌, ◌||◌, List, ◌∷◌}
+use Rattle.std.proofs.Common.{length, get_or, take, drop, ◌-◌, map, refl, ap, sym, ◌∙◌}
 use Rattle.std.proofs.lemmas.List.{drop_all, drop_more, length-drop}
 use Rattle.std.proofs.Math.Seq.{take-length}
 use Rattle.std.proofs.lemmas.List.Folds.{list_all-map}
@@ -60,7 +59,8 @@ module _ (g : Graph) (nodes : List ℕ) (literals : List Item) where
       (either : after.fails ≡ (before.fails || here.fails))
       (says : SaysAs here (unlike_each literals g n (drop (i + 1) nodes))) where
     rest : terms_from i ≡ node_term g n ∷ terms_from (i + 1)
-    rest = ap (map (node_term g)) (drop_more nodes i n l ∙ ap (λ x. x ∷ drop (i + 1) nodes) (sym at))
+    rest = ap (map (node_term g)) (drop_more nodes i n l
+        ∙ ap (λ x. x ∷ drop (i + 1) nodes) (sym at))
 
     all_here : every_two apart (terms_from i)
         ≡ (here.holds && every_two apart (terms_from (i + 1)))

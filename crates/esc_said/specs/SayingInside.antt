@@ -18,7 +18,7 @@ tells_order a b positive lit = false
 -- that the term of a node differs from each of these nodes' terms
 abbrev pub unlike_each : List Item → Graph → ℕ → List ℕ → Cover
 unlike_each literals g a others = record {
-  holds =
-      list_all (λ b. is_forced_apart literals (classes_in g) (node_term g a) (node_term g b)) others;
+  holds = list_all (λ b. is_forced_apart literals (classes_in g) (node_term g a) (node_term g b))
+      others;
   fails = list_any (λ b. together (classes_in g) (node_term g a) (node_term g b)) others;
 }

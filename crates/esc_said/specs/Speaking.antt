@@ -1,6 +1,6 @@
 -- Who speaks for literals: what is said by a graph, groups and asserted literals is what these
 -- literals and the classes of the graph say.
-use Rattle.std.specs.Prelude.{◌≡◌, ◌↔◌, ℕ, ◌<◌, Bool, List, map}
+use Rattle.std.specs.Prelude.{◌≡◌, ◌↔◌, ◌<◌, Bool, List, map}
 use Rattle.std.specs.List.{All, Contains}
 use Rattle.esc_term.specs.declared.term.Term.{Term}
 use Rattle.esc_term.specs.declared.formula.Item.{Item}

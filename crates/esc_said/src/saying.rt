@@ -1,6 +1,6 @@
 //! What is said of nodes.
 
-ghost use Rattle.std.specs.Prelude.{◌≡◌, ◌⊎◌, ◌↔◌, ◌<◌, Bool, IsTrue, List, map, true, false};
+ghost use Rattle.std.specs.Prelude.{◌≡◌, ◌⊎◌, ◌↔◌, ◌<◌, IsTrue, List, map, true, false};
 ghost use Rattle.std.specs.List.{All};
 ghost use Rattle.esc_term.specs.declared.formula.Formula.TheVariants as formula;
 ghost use Rattle.esc_term.specs.declared.formula.Item.{Item};

@@ -12,15 +12,17 @@ returns-in_default-clause-holds c =
     let j = c.args.self.now in
     sym (ap (λ d. d.holds) (cover-Eq (literals_for j) (classes_for j) c.args.left.now
     c.args.right.now)
-    ∙ together-no_left j.saying.graph.now c.args.left.now c.args.right.now c.in_default.ensures.none)
+    ∙ together-no_left j.saying.graph.now c.args.left.now c.args.right.now
+    c.in_default.ensures.none)
 
 pub returns-in_default-clause-fails : goal.returns-in_default-clause-fails
 returns-in_default-clause-fails c =
     let j = c.args.self.now in
     sym (ap (λ d. d.fails) (cover-Eq (literals_for j) (classes_for j) c.args.left.now
     c.args.right.now)
-    ∙ is_forced_apart-no_left j.saying.graph.now c.args.left.now c.args.right.now c.requires.judge.saying.graph
-    j.saying.groups.now (literals_for j) c.requires.judge.held c.in_default.ensures.none)
+    ∙ is_forced_apart-no_left j.saying.graph.now c.args.left.now c.args.right.now
+    c.requires.judge.saying.graph j.saying.groups.now (literals_for j) c.requires.judge.held
+    c.in_default.ensures.none)
 
 pub returns-in_default-node_of-clause-holds : goal.returns-in_default-node_of-clause-holds
 returns-in_default-node_of-clause-holds c =
