@@ -154,8 +154,8 @@ module _ (g : Graph) (n : ℕ) (old : List Entry) where
 -- ---- the terms of the parts
 
 module _ (P : Term → Type 0) where
-  as : (f g : Formula) → f ≡ g → (xs : List Term) → terms_of g ≡ xs → All P (terms_of f) → All P xs
-  as f g e xs is all = subst (λ l. All P l) (ap terms_of e ∙ is) all
+  of_form : (f g : Formula) → f ≡ g → (xs : List Term) → terms_of g ≡ xs → All P (terms_of f) → All P xs
+  of_form f g e xs is all = subst (λ l. All P l) (ap terms_of e ∙ is) all
 
   pub terms-parts : (f : Formula) (gs ps : List Formula)
       → (f ≡ formula.And gs) ⊎ (f ≡ formula.Or gs) → ps ≡ gs → All P (terms_of f)
@@ -163,11 +163,11 @@ module _ (P : Term → Type 0) where
   terms-parts f gs ps (inl e) same all =
       subst (λ l. All (λ p. All P (terms_of p)) l) (sym same)
       (flat_map-All P terms_of gs
-      (as f (formula.And gs) e (flat_map terms_of gs) (terms.terms_of-And gs) all))
+      (of_form f (formula.And gs) e (flat_map terms_of gs) (terms.terms_of-And gs) all))
   terms-parts f gs ps (inr e) same all =
       subst (λ l. All (λ p. All P (terms_of p)) l) (sym same)
       (flat_map-All P terms_of gs
-      (as f (formula.Or gs) e (flat_map terms_of gs) (terms.terms_of-Or gs) all))
+      (of_form f (formula.Or gs) e (flat_map terms_of gs) (terms.terms_of-Or gs) all))
 
   pub terms-part : (f h p : Formula) → (f ≡ formula.Not h)
       ⊎ (((name : Sym) × (f ≡ formula.LabelPos name h))
@@ -175,20 +175,20 @@ module _ (P : Term → Type 0) where
       → p ≡ h → All P (terms_of f) → All P (terms_of p)
   terms-part f h p (inl e) same all =
       subst (λ x. All P (terms_of x)) (sym same)
-      (as f (formula.Not h) e (terms_of h) (terms.terms_of-Not h) all)
+      (of_form f (formula.Not h) e (terms_of h) (terms.terms_of-Not h) all)
   terms-part f h p (inr (inl (name, e))) same all =
       subst (λ x. All P (terms_of x)) (sym same)
-      (as f (formula.LabelPos name h) e (terms_of h) (terms.terms_of-LabelPos name h) all)
+      (of_form f (formula.LabelPos name h) e (terms_of h) (terms.terms_of-LabelPos name h) all)
   terms-part f h p (inr (inr (name, e))) same all =
       subst (λ x. All P (terms_of x)) (sym same)
-      (as f (formula.LabelNeg name h) e (terms_of h) (terms.terms_of-LabelNeg name h) all)
+      (of_form f (formula.LabelNeg name h) e (terms_of h) (terms.terms_of-LabelNeg name h) all)
 
   both : (f h k : Formula) → (f ≡ formula.Implies h k) ⊎ (f ≡ formula.Iff h k)
       → All P (terms_of f) → All P (terms_of h ++ terms_of k)
   both f h k (inl e) all =
-      as f (formula.Implies h k) e (terms_of h ++ terms_of k) (terms.terms_of-Implies h k) all
+      of_form f (formula.Implies h k) e (terms_of h ++ terms_of k) (terms.terms_of-Implies h k) all
   both f h k (inr e) all =
-      as f (formula.Iff h k) e (terms_of h ++ terms_of k) (terms.terms_of-Iff h k) all
+      of_form f (formula.Iff h k) e (terms_of h ++ terms_of k) (terms.terms_of-Iff h k) all
 
   pub terms-left : (f h k p : Formula) → (f ≡ formula.Implies h k) ⊎ (f ≡ formula.Iff h k)
       → p ≡ h → All P (terms_of f) → All P (terms_of p)
@@ -215,13 +215,13 @@ module _ (P : Term → Type 0) where
     where
       sides : (f ≡ formula.Eq s t) ⊎ (f ≡ formula.Less s t) → All P (subterms s ++ subterms t)
       sides (inl e) =
-          as f (formula.Eq s t) e (subterms s ++ subterms t) (terms.terms_of-Eq s t) all
+          of_form f (formula.Eq s t) e (subterms s ++ subterms t) (terms.terms_of-Eq s t) all
       sides (inr e) =
-          as f (formula.Less s t) e (subterms s ++ subterms t) (terms.terms_of-Less s t) all
+          of_form f (formula.Less s t) e (subterms s ++ subterms t) (terms.terms_of-Less s t) all
 
   pub terms-distinct : (f : Formula) (us ts : List Term) → f ≡ formula.Distinct us → ts ≡ us
       → All P (terms_of f) → All P ts
   terms-distinct f us ts e same all =
       subst (λ l. All P l) (sym same) (All-each P us (λ u h. All-contains P (flat_map subterms us) u
-      (as f (formula.Distinct us) e (flat_map subterms us) (terms.terms_of-Distinct us) all)
+      (of_form f (formula.Distinct us) e (flat_map subterms us) (terms.terms_of-Distinct us) all)
       (Contains-in_flat_map subterms us u u h (subterms-self u))))

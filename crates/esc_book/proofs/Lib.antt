@@ -1,10 +1,14 @@
+mod BookNotes
+mod Books
 mod FormKinds
 mod Headed
 mod HeadsLevels
 mod Indexing
 mod Inside
 mod Laying
+mod Literals
 mod Nested
 mod Pairs
 mod Reading
+mod Sizes
 mod Writings

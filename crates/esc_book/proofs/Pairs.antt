@@ -70,8 +70,12 @@ get-before (x ∷ xs) ys (suc k) l = get-before xs ys k (omega (arith, l))
 
 pub get-behind : {X : Type 0} (xs ys : List X) (k : ℕ)
     → slice_get (xs ++ ys) (length xs + k) ≡ slice_get ys k
-get-behind [] ys k = refl
-get-behind (x ∷ xs) ys k = get-behind xs ys k
+get-behind [] ys k =
+    let same : 0 + k ≡ k = omega arith in
+    ap (λ n. slice_get ys n) same
+get-behind (x ∷ xs) ys k =
+    let next : suc (length xs) + k ≡ suc (length xs + k) = omega arith in
+    ap (λ n. slice_get (x ∷ (xs ++ ys)) n) next ∙ get-behind xs ys k
 
 -- the pair with a number, in the last row that starts at it or before it
 pub pair_at : (start k : ℕ) (nodes : List ℕ) (i : ℕ) → i < length nodes
@@ -84,8 +88,11 @@ pair_at start k [] i l from to = absurd (omega (arith, l))
 pair_at start k (a ∷ []) zero l from to =
     let past : start + k - start ≡ k = omega arith in refl
 pair_at start k (a ∷ b ∷ nodes) zero l from to =
-    let within : k < length (map (λ c. (a, c)) (b ∷ nodes)) =
-    omega (arith, to (omega arith), length-map nodes (λ (c : ℕ). (a, c))) in
+    let pairing : ℕ → ℕ × ℕ = λ c. (a, c) in
+    let many : length (map pairing (b ∷ nodes)) ≡ length (b ∷ nodes) =
+    length-map (b ∷ nodes) pairing in
+    let limit = to (omega arith) in
+    let within : k < length (map pairing (b ∷ nodes)) = omega (arith, limit, many) in
     let same : k ≡ start + k - start = omega arith in
     get-before (map (λ c. (a, c)) (b ∷ nodes)) (node_pairs (b ∷ nodes)) k within
     ∙ (slice_get-map (λ c. (a, c)) (b ∷ nodes) k
@@ -95,8 +102,9 @@ pair_at start k (a ∷ nodes) (suc i) l from to =
     ≤ get_or (rows_from (start + length nodes) (length nodes)) i 0 =
     rows_from-low (start + length nodes) (length nodes) i (omega (arith, l)) in
     let rest : ℕ = k - length nodes in
-    let parted : k ≡ length (map (λ c. (a, c)) nodes) + rest =
-    omega (arith, low, from, length-map nodes (λ (c : ℕ). (a, c))) in
+    let pairing : ℕ → ℕ × ℕ = λ c. (a, c) in
+    let many : length (map pairing nodes) ≡ length nodes = length-map nodes pairing in
+    let parted : k ≡ length (map pairing nodes) + rest = omega (arith, low, from, many) in
     let again : start + length nodes + rest ≡ start + k = omega (arith, low, from) in
     ap (λ n. slice_get (node_pairs (a ∷ nodes)) n) parted
     ∙ (get-behind (map (λ c. (a, c)) nodes) (node_pairs nodes) rest

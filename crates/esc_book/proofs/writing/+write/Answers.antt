@@ -1,6 +1,7 @@
-use Rattle.std.proofs.Common.{sym, subst}
+use Rattle.std.proofs.Common.{arith, sym, subst}
 use Rattle.std.specs.List.{All, Contains}
 use Rattle.esc_term.specs.Formula.{terms_of}
+use Rattle.esc_branch.proofs.Falling.{falls-item, falls-part, falls-parts, formula_size}
 use Rattle.esc_sharing.specs.Nodes.{terms_in}
 use Rattle.esc_book.specs.Book.{heads_of}
 use Rattle.esc_book.specs.WritingInside.{Writes, behind_own, inside_of}
@@ -9,6 +10,7 @@ use Rattle.esc_book.proofs.Headed.{written-within}
 use Rattle.esc_book.proofs.Inside.{inside-Eq, inside-Exists, inside-False, inside-Forall}
 use Rattle.esc_book.proofs.Inside.{inside-Less, inside-True, inside-part, inside-parts, inside-two}
 use Rattle.esc_book.proofs.Inside.{terms-left, terms-part, terms-parts, terms-right}
+use Rattle.esc_book.proofs.Sizes.{falls-two}
 use Rattle.esc_book.proofs.Writings.{writes_both, writes_none}
 use Rattle.esc_book.proofs.writing.+write.Goals as goal
 
@@ -30,26 +32,45 @@ write-returns t c =
 
 pub write_inside-write_all-requires : goal.write_inside-write_all-requires
 write_inside-write_all-requires t c =
-    terms-parts (Contains (terms_in c.args.graph.now)) c.args.formula.now c.in-And.parts
-    c.as_slice.result.now c.in-And.is c.as_slice.ensures c.requires
+    let falls = falls-parts c.args.formula.now c.in-And.parts c.as_slice.result.now c.in-And.is
+    c.as_slice.ensures in (
+  omega arith,
+  terms-parts (Contains (terms_in c.args.graph.now)) c.args.formula.now c.in-And.parts
+      c.as_slice.result.now c.in-And.is c.as_slice.ensures c.requires.terms,
+)
 
 pub write_inside-write-requires : goal.write_inside-write-requires
 write_inside-write-requires t c =
-    terms-part (Contains (terms_in c.args.graph.now)) c.args.formula.now c.in-Not.part
-    c.get.result.now c.in-Not.is c.get.ensures c.requires
+    let falls = falls-part c.args.formula.now c.in-Not.part c.get-in-Not.result.now c.in-Not.is
+    c.get-in-Not.ensures in (
+  omega arith,
+  terms-part (Contains (terms_in c.args.graph.now)) c.args.formula.now c.in-Not.part
+      c.get-in-Not.result.now c.in-Not.is c.get-in-Not.ensures c.requires.terms,
+)
 
-pub write_inside-write_two-requires-clause-left : goal.write_inside-write_two-requires-clause-left
-write_inside-write_two-requires-clause-left t c =
+pub write_inside-write_two-requires : goal.write_inside-write_two-requires
+write_inside-write_two-requires t c =
+    let falls = falls-two c.args.formula.now c.in-Implies.left c.in-Implies.right
+    c.get.result.now c.get-in-Implies.result.now c.in-Implies.is c.get.ensures
+    c.get-in-Implies.ensures in (
+  omega arith,
+  (
     terms-left (Contains (terms_in c.args.graph.now)) c.args.formula.now c.in-Implies.left
-    c.in-Implies.right c.get-in-Implies.result.now c.in-Implies.is c.get-in-Implies.ensures
-    c.requires
-
-pub write_inside-write_two-requires-clause-right
-    : goal.write_inside-write_two-requires-clause-right
-write_inside-write_two-requires-clause-right t c =
+        c.in-Implies.right c.get.result.now c.in-Implies.is c.get.ensures c.requires.terms,
     terms-right (Contains (terms_in c.args.graph.now)) c.args.formula.now c.in-Implies.left
-    c.in-Implies.right c.get-in-Implies-2.result.now c.in-Implies.is c.get-in-Implies-2.ensures
-    c.requires
+        c.in-Implies.right c.get-in-Implies.result.now c.in-Implies.is
+        c.get-in-Implies.ensures c.requires.terms,
+  ),
+)
+
+pub write_two-write-requires-2 : goal.write_two-write-requires-2
+write_two-write-requires-2 t c = (omega arith, c.requires.right)
+
+pub write_two-write-requires : goal.write_two-write-requires
+write_two-write-requires t c = (omega arith, c.requires.left)
+
+pub write-write_inside-requires : goal.write-write_inside-requires
+write-write_inside-requires t c = (omega arith, c.requires.terms)
 
 pub write_inside-returns-in-And : goal.write_inside-returns-in-And
 write_inside-returns-in-And t c =
@@ -60,15 +81,15 @@ write_inside-returns-in-And t c =
 pub write_inside-returns-in-Not : goal.write_inside-returns-in-Not
 write_inside-returns-in-Not t c =
     inside-if c.args.graph.now c.args.formula.now _ c.args.inside c.args.page.now _
-    c.write.result (inside-part c.args.formula.now c.in-Not.part c.get.result.now
-    c.in-Not.is c.get.ensures) c.write.ensures
+    c.write.result (inside-part c.args.formula.now c.in-Not.part c.get-in-Not.result.now
+    c.in-Not.is c.get-in-Not.ensures) c.write.ensures
 
 pub write_inside-returns-in-Implies : goal.write_inside-returns-in-Implies
 write_inside-returns-in-Implies t c =
     inside-if c.args.graph.now c.args.formula.now _ c.args.inside c.args.page.now _
     c.write_two.result (inside-two c.args.formula.now c.in-Implies.left c.in-Implies.right
-    c.get-in-Implies.result.now c.get-in-Implies-2.result.now c.in-Implies.is
-    c.get-in-Implies.ensures c.get-in-Implies-2.ensures) c.write_two.ensures
+    c.get.result.now c.get-in-Implies.result.now c.in-Implies.is
+    c.get.ensures c.get-in-Implies.ensures) c.write_two.ensures
 
 pub write_inside-returns-in-Distinct : goal.write_inside-returns-in-Distinct
 write_inside-returns-in-Distinct t c =
@@ -128,12 +149,16 @@ write_all-parts-init t c = record {
 
 pub write_all-write-requires : goal.write_all-write-requires
 write_all-write-requires t c =
-    subst (λ f. All (Contains (terms_in c.args.graph.now)) (terms_of f)) (sym c.part-item.is)
-    (c.requires c.parts.part-index c.part-item.result c.parts-test.true)
+    let falls = falls-item formula_size c.args.parts.now c.parts.part-index c.part-item.result
+    c.parts-test.true c.part-item.is in (
+  omega arith,
+  subst (λ f. All (Contains (terms_in c.args.graph.now)) (terms_of f)) (sym c.part-item.is)
+      (c.requires.terms c.parts.part-index c.part-item.result c.parts-test.true),
+)
 
 pub write_all-parts-preserved : goal.write_all-parts-preserved
 write_all-parts-preserved t c = record {
   written = writes_more c.args.graph.now c.args.parts.now c.parts.part-index c.part-item.result
-      c.args.start c.parts.end c.in_ok-write.field-0 c.args.page.now _ _ c.parts-test.true
-      c.part-item.is c.parts.invariant.written c.in_ok-write.ensures;
+      c.args.start c.parts.end c.in_ok-end.end c.args.page.now _ _ c.parts-test.true
+      c.part-item.is c.parts.invariant.written c.in_ok-end.ensures;
 }
