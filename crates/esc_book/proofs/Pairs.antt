@@ -1,9 +1,11 @@
 -- The pairs of a group by their numbers.
-use Rattle.std.proofs.Common.{◌≡◌, ℕ, suc, zero, ◌+◌, ◌-◌, ◌*◌, ◌<◌, ◌≤◌, List, [], ◌∷◌, ◌++◌, Some}
+use Rattle.std.proofs.Common.{◌≡◌, ℕ, nat_le, true, false, suc, zero, ◌+◌, ◌-◌, ◌*◌, ◌<◌, ◌≤◌, List, [], ◌∷◌, ◌++◌, Some}
 use Rattle.std.proofs.Common.{None, Option, length, map, drop, get_or, refl, ap, ap₂, sym, subst}
 use Rattle.std.proofs.Common.{◌∙◌, append_assoc, arith, length-append}
-use Rattle.std.proofs.lemmas.List.{append-nil, length-map, map-append}
+use Rattle.std.proofs.lemmas.Bool.{leb-false, leb-true}
+use Rattle.std.proofs.lemmas.List.{append-nil, get_or_default, length-map, map-append}
 use Rattle.std.specs.List.{slice_get}
+use Rattle.std.specs.List.Sorted.{IsNonDecreasingBy, IsPartitionPoint}
 use Rattle.std.specs.Option.{option_map}
 use Rattle.esc_term.specs.declared.term.Term.{Term}
 use Rattle.esc_term.specs.declared.formula.Formula.{Formula}
@@ -134,3 +136,63 @@ pub pair_count-more : (n : ℕ) → pair_count (n + 1) ≡ n + pair_count n
 pair_count-more n =
     let next : n + 1 ≡ suc n = omega arith in
     ap pair_count next
+
+-- ---- the last row that starts at a number or before it
+
+pub rows_rise : (start n : ℕ) → IsNonDecreasingBy (λ (x : ℕ). x) (rows_from start n)
+rows_rise start n i j d le l =
+    let many : length (rows_from start n) ≡ n = length-rows_from start n in
+    subst (λ x. x ≤ get_or (rows_from start n) j d)
+    (get_or_default (rows_from start n) i 0 d (omega (arith, le, l)))
+    (subst (λ y. get_or (rows_from start n) i 0 ≤ y) (get_or_default (rows_from start n) j 0 d l)
+    (rows_from-rise start n i j le (omega (arith, l, many))))
+
+-- the pair with a number, by where the rows stop that start at it or before it
+module _ (nodes rows : List ℕ) (number row : ℕ) (are : rows ≡ rows_from 0 (length nodes))
+    (split : IsPartitionPoint (λ x. nat_le x number ≡ true) (λ x. nat_le x number ≡ false) rows row)
+    (bound : row ≤ length rows) where
+  many_rows : length rows ≡ length nodes
+  many_rows = ap length are ∙ length-rows_from 0 (length nodes)
+
+  low : (i : ℕ) → i < row → get_or rows i 0 ≤ number
+  low i l = leb-true (get_or rows i 0) number (split.0 i 0 (omega arith) l)
+
+  high : (i : ℕ) → row ≤ i → i < length rows → number < get_or rows i 0
+  high i le l = leb-false (get_or rows i 0) number (split.1 i 0 le l)
+
+  pub none_before : row ≡ 0 → slice_get (node_pairs nodes) number ≡ None
+  none_before e = empty nodes refl
+    where
+      empty : (ns : List ℕ) → nodes ≡ ns → slice_get (node_pairs ns) number ≡ None
+      empty [] is = refl
+      empty (n ∷ ns) is =
+          let some : 0 < length rows = omega (arith, many_rows, ap length is) in
+          let first : get_or rows 0 0 ≡ 0 =
+          ap (λ rs. get_or rs 0 0) (are ∙ ap (λ l. rows_from 0 (length l)) is) in
+          absurd (omega (arith, high 0 (omega (arith, e)) some, first))
+
+  pub start_within : (first : ℕ) → first + 1 ≡ row → get_or rows first 0 ≤ number
+  start_within first e = low first (omega (arith, e))
+
+  pub pair_is : (first : ℕ) → first + 1 ≡ row → slice_get (node_pairs nodes) number
+      ≡ option_map (λ b. (get_or nodes first 0, b))
+      (slice_get (drop row nodes) (number - get_or rows first 0))
+  pair_is first e =
+      let l : first < length nodes = omega (arith, e, bound, many_rows) in
+      let next : suc first ≡ row = omega (arith, e) in
+      let from : get_or (rows_from 0 (length nodes)) first 0 ≤ 0 + number =
+      subst (λ rs. get_or rs first 0 ≤ 0 + number) are
+      (omega (arith, start_within first e)) in
+      let to : suc first < length nodes
+      → 0 + number < get_or (rows_from 0 (length nodes)) (suc first) 0 =
+      λ more. subst (λ rs. 0 + number < get_or rs (suc first) 0) are
+      (omega (arith, high (suc first) (omega (arith, next))
+      (omega (arith, more, many_rows)))) in
+      let same : 0 + number - get_or (rows_from 0 (length nodes)) first 0
+      ≡ number - get_or rows first 0 =
+      ap (λ rs. 0 + number - get_or rs first 0) (sym are)
+      ∙ (let plain : 0 + number - get_or rows first 0 ≡ number - get_or rows first 0 =
+      omega arith in plain) in
+      pair_at 0 number nodes first l from to
+      ∙ ap₂ (λ k n. option_map (λ b. (get_or nodes first 0, b)) (slice_get (drop k nodes) n))
+      next same
