@@ -20,14 +20,11 @@ use Rattle.esc_book.specs.Book.{Page, page_of, told, told_kind}
 use Rattle.esc_book.specs.declared.entry.Entry.{Entry}
 use Rattle.esc_book.specs.declared.entry.Kind.{Kind}
 use Rattle.esc_book.specs.declared.entry.Kind.TheVariants as kind
-use Rattle.esc_book.proofs.Pairs.{get-before, get-behind}
+use Rattle.esc_book.proofs.Pairs.{get-before}
+use Rattle.esc_book.proofs.Reading.{get-within}
 
 -- ---- lists
 
-get-within : {X : Type 0} (xs : List X) (i : ℕ) (x : X) → slice_get xs i ≡ Some x → i < length xs
-get-within [] i x e = cc
-get-within (y ∷ xs) zero x e = omega arith
-get-within (y ∷ xs) (suc i) x e = omega (arith, get-within xs i x e)
 
 get-contains : {X : Type 0} (xs : List X) (i : ℕ) (x : X) → slice_get xs i ≡ Some x
     → Contains xs x

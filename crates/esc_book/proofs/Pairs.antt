@@ -1,9 +1,11 @@
 -- The pairs of a group by their numbers.
 use Rattle.std.proofs.Common.{◌≡◌, ℕ, nat_le, true, false, suc, zero, ◌+◌, ◌-◌, ◌*◌, ◌<◌, ◌≤◌, List, [], ◌∷◌, ◌++◌, Some}
-use Rattle.std.proofs.Common.{None, Option, length, map, drop, get_or, refl, ap, ap₂, sym, subst}
+use Rattle.std.proofs.Common.{None, Option, length, map, take, drop, get_or, refl, ap, ap₂, sym, subst}
 use Rattle.std.proofs.Common.{◌∙◌, append_assoc, arith, length-append}
 use Rattle.std.proofs.lemmas.Bool.{leb-false, leb-true}
-use Rattle.std.proofs.lemmas.List.{append-nil, get_or_default, length-map, map-append}
+use Rattle.std.proofs.lemmas.List.{append-nil, get_or_default, length-drop, length-map, map-append}
+use Rattle.std.proofs.lemmas.List.{take_all}
+use Rattle.std.proofs.lemmas.Option.{slice_get_past, slice_get_read}
 use Rattle.std.specs.List.{slice_get}
 use Rattle.std.specs.List.Sorted.{IsNonDecreasingBy, IsPartitionPoint}
 use Rattle.std.specs.Option.{option_map}
@@ -196,3 +198,24 @@ module _ (nodes rows : List ℕ) (number row : ℕ) (are : rows ≡ rows_from 0 
       pair_at 0 number nodes first l from to
       ∙ ap₂ (λ k n. option_map (λ b. (get_or nodes first 0, b)) (slice_get (drop k nodes) n))
       next same
+
+-- ---- what stands behind a node
+
+module _ (nodes : List ℕ) (row k : ℕ) where
+  others_are : take (length nodes - row) (drop row nodes) ≡ drop row nodes
+  others_are =
+      take_all (length nodes - row) (drop row nodes) (omega (arith, length-drop row nodes))
+
+  pub other_there : (b : ℕ) → k < length (take (length nodes - row) (drop row nodes))
+      → b ≡ get_or (take (length nodes - row) (drop row nodes)) k b
+      → slice_get (drop row nodes) k ≡ Some b
+  other_there b l is =
+      subst (λ xs. slice_get xs k ≡ Some b) others_are
+      (slice_get_read (take (length nodes - row) (drop row nodes))
+      (length (take (length nodes - row) (drop row nodes))) k b refl l is)
+
+  pub other_past : length (take (length nodes - row) (drop row nodes)) ≤ k
+      → slice_get (drop row nodes) k ≡ None
+  other_past le =
+      subst (λ xs. slice_get xs k ≡ None) others_are
+      (slice_get_past (take (length nodes - row) (drop row nodes)) k le)

@@ -96,14 +96,21 @@ begin_at-next hs n p ps there =
 
 -- a formula with no part before it begins behind the formula whose first part it is
 pub begin_at-own : (hs : List Formula) (n : ℕ) (f : Formula) → slice_get hs n ≡ Some f
-    → begin_at hs (n + 1) ≡ begin_at hs n + length (own f)
+    → begin_at hs (suc n) ≡ begin_at hs n + length (own f)
 begin_at-own [] n f e = cc
 begin_at-own (h ∷ hs) zero f e =
     let same : h ≡ f = cc in
-    length-append (own h) [] ∙ (omega (arith) ∙ ap (λ x. 0 + length (own x)) same)
+    let all : length (own h ++ []) ≡ 0 + length (own h) = omega (arith, length-append (own h) []) in
+    all ∙ ap (λ x. 0 + length (own x)) same
 begin_at-own (h ∷ hs) (suc n) f e =
     omega (arith, begin_at-own hs n f e, length-append (own h) (flat_map own (take n hs)),
-    length-append (own h) (flat_map own (take (n + 1) hs)))
+    length-append (own h) (flat_map own (take (suc n) hs)))
+
+pub get-within : {X : Type 0} (xs : List X) (i : ℕ) (x : X) → slice_get xs i ≡ Some x
+    → i < length xs
+get-within [] i x e = cc
+get-within (y ∷ xs) zero x e = omega arith
+get-within (y ∷ xs) (suc i) x e = omega (arith, get-within xs i x e)
 
 -- ---- entries
 
@@ -139,12 +146,17 @@ module _ (g : Graph) (f : Formula) (page : List Entry) (is : IsPage g f page) wh
       sym entry ∙ (ap (λ l. slice_get l i) is.is ∙ laid_there) in
       (s, record { there = there; outline = cc })
 
+  pub begin_there : (i : ℕ) (e : Entry) → i < length page → e ≡ get_or page i e
+      → e.begin ≡ begin_at (heads_of f) i
+  begin_there i e l is_e =
+      ap (λ (x : Entry). x.begin) is_e ∙ ap (λ (o : Outline). o.begin) (read i e l).1.outline
+
   pub begins_rise : IsNonDecreasingBy (λ (e : Entry). e.begin) page
   begins_rise i j d le l =
       let first = read i d (omega (arith, le, l)) in
       let second = read j d l in
       let here : (get_or page i d).begin ≡ begin_at (heads_of f) i =
-      ap (λ o. o.begin) first.1.outline in
+      ap (λ (o : Outline). o.begin) first.1.outline in
       let there : (get_or page j d).begin ≡ begin_at (heads_of f) j =
-      ap (λ o. o.begin) second.1.outline in
+      ap (λ (o : Outline). o.begin) second.1.outline in
       omega (arith, here, there, begin_at-rise (heads_of f) i j le)
