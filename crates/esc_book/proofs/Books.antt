@@ -25,7 +25,6 @@ use Rattle.esc_book.proofs.Reading.{get-within}
 
 -- ---- lists
 
-
 get-contains : {X : Type 0} (xs : List X) (i : ℕ) (x : X) → slice_get xs i ≡ Some x
     → Contains xs x
 get-contains xs i x e =
@@ -147,8 +146,13 @@ module _ (g : Graph) (v w : BookView) where
 module _ (g h : Graph) (more : List Term) (grown : terms_in h ≡ terms_in g ++ more) where
   count_grows : node_count g ≤ node_count h
   count_grows =
-      omega (arith, length-terms_of g.nodes, length-terms_of h.nodes, ap length grown,
-      length-append (terms_in g) more)
+      omega (
+        arith,
+        length-terms_of g.nodes,
+        length-terms_of h.nodes,
+        ap length grown,
+        length-append (terms_in g) more,
+      )
 
   get_or-before : (xs ys : List Term) (k : ℕ) (d : Term) → k < length xs
       → get_or (xs ++ ys) k d ≡ get_or xs k d

@@ -152,5 +152,5 @@ pub ruleset kinds = (
   kind-Exists,
   kind-Eq,
   kind-Less,
-  kind-Distinct
+  kind-Distinct,
 )

@@ -47,8 +47,13 @@ module _ (g : Graph) (f : Formula) where
       → index ≡ length old → pushed ≡ old ++ (hidden ∷ [])
       → Writes g (inside_of f) place pushed mid end → index < length mid
   written-within place index end hidden old pushed mid at_index at_pushed w =
-      omega (arith, at_index, length-more g (inside_of f) place pushed mid end w,
-      ap length at_pushed, length-append old (hidden ∷ []))
+      omega (
+        arith,
+        at_index,
+        length-more g (inside_of f) place pushed mid end w,
+        ap length at_pushed,
+        length-append old (hidden ∷ []),
+      )
 
   pub inside-if : {E : Type 0} (hs : List Formula) (n : ℕ) (old new : List Entry) (r : Result ℕ E)
       → GoesInside f hs → IfOk r (Writes g hs n old new)

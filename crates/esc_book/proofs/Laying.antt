@@ -8,7 +8,6 @@ use Rattle.esc_term.specs.declared.formula.Formula.TheViews.{out-Formula}
 use Rattle.esc_book.specs.Book.{Outline, form_at, heads_of, laid, own}
 use Rattle.esc_book.specs.ReadingInside.{begin_at}
 
-
 pub length-laid : (b n : ℕ) (fs : List Formula) → length (laid b n fs) ≡ length fs
 length-laid b n [] = refl
 length-laid b n (f ∷ fs) = ap suc (length-laid (b + length (own f)) (n + 1) fs)

@@ -26,7 +26,6 @@ length-pair_equations (t ∷ ts) =
 
 -- ---- by nodes
 
-
 pub pair_equations-map : (of : ℕ → Term) (nodes : List ℕ) → pair_equations (map of nodes)
     ≡ map (λ p. formula.Eq (of p.0) (of p.1)) (node_pairs nodes)
 pair_equations-map of [] = refl
@@ -188,8 +187,11 @@ module _ (nodes rows : List ℕ) (number row : ℕ) (are : rows ≡ rows_from 0 
       let to : suc first < length nodes
       → 0 + number < get_or (rows_from 0 (length nodes)) (suc first) 0 =
       λ more. subst (λ rs. 0 + number < get_or rs (suc first) 0) are
-      (omega (arith, high (suc first) (omega (arith, next))
-      (omega (arith, more, many_rows)))) in
+      (omega (
+        arith,
+        high (suc first) (omega (arith, next))
+            (omega (arith, more, many_rows)),
+      )) in
       let same : 0 + number - get_or (rows_from 0 (length nodes)) first 0
       ≡ number - get_or rows first 0 =
       ap (λ rs. 0 + number - get_or rs first 0) (sym are)

@@ -21,8 +21,18 @@ formula_size-Iff f g = fold-roll-Formula ℕ Unit formula_step (λ quant. tt) (F
 pub falls-two : (f h k p q : Formula) → (f ≡ Implies h k) ⊎ (f ≡ Iff h k) → p ≡ h → q ≡ k
     → formula_size p + formula_size q < formula_size f
 falls-two f h k p q (inl e) first second =
-    omega (arith, ap formula_size first, ap formula_size second, ap formula_size e,
-    formula_size-Implies h k)
+    omega (
+      arith,
+      ap formula_size first,
+      ap formula_size second,
+      ap formula_size e,
+      formula_size-Implies h k,
+    )
 falls-two f h k p q (inr e) first second =
-    omega (arith, ap formula_size first, ap formula_size second, ap formula_size e,
-    formula_size-Iff h k)
+    omega (
+      arith,
+      ap formula_size first,
+      ap formula_size second,
+      ap formula_size e,
+      formula_size-Iff h k,
+    )

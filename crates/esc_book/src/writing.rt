@@ -16,11 +16,7 @@ use std::alloc::{AllocError, Global};
 
 /// The table of a formula. It fails only where memory is wanting, or where a place would be too
 /// large a number.
-pub(crate) fn page_of(
-    alloc: Global,
-    graph: &EGraph,
-    formula: &Formula,
-) -> Result<Page, AllocError>
+pub(crate) fn page_of(alloc: Global, graph: &EGraph, formula: &Formula) -> Result<Page, AllocError>
     requires terms { All (Contains (terms_in graph.now)) (terms_of formula.now) }
     ensures { IfOk result (IsPage graph.now formula.now) }
 {

@@ -14,5 +14,9 @@ returns-in-Some c g f s is there =
 pub returns-in-None : goal.returns-in-None
 returns-in-None c g f s is there =
     let found = c.in-None.ensures.lookup in
-    absurd (omega (arith, ltb-false _ _ (sym found.0), length-page g f c.args.page.now is,
-    get-within (heads_of f) c.args.index s there))
+    absurd (omega (
+      arith,
+      ltb-false _ _ (sym found.0),
+      length-page g f c.args.page.now is,
+      get-within (heads_of f) c.args.index s there,
+    ))

@@ -34,34 +34,34 @@ pub write_inside-write_all-requires : goal.write_inside-write_all-requires
 write_inside-write_all-requires t c =
     let falls = falls-parts c.args.formula.now c.in-And.parts c.as_slice.result.now c.in-And.is
     c.as_slice.ensures in (
-  omega arith,
-  terms-parts (Contains (terms_in c.args.graph.now)) c.args.formula.now c.in-And.parts
-      c.as_slice.result.now c.in-And.is c.as_slice.ensures c.requires.terms,
-)
+      omega arith,
+      terms-parts (Contains (terms_in c.args.graph.now)) c.args.formula.now c.in-And.parts
+          c.as_slice.result.now c.in-And.is c.as_slice.ensures c.requires.terms,
+    )
 
 pub write_inside-write-requires : goal.write_inside-write-requires
 write_inside-write-requires t c =
     let falls = falls-part c.args.formula.now c.in-Not.part c.get-in-Not.result.now c.in-Not.is
     c.get-in-Not.ensures in (
-  omega arith,
-  terms-part (Contains (terms_in c.args.graph.now)) c.args.formula.now c.in-Not.part
-      c.get-in-Not.result.now c.in-Not.is c.get-in-Not.ensures c.requires.terms,
-)
+      omega arith,
+      terms-part (Contains (terms_in c.args.graph.now)) c.args.formula.now c.in-Not.part
+          c.get-in-Not.result.now c.in-Not.is c.get-in-Not.ensures c.requires.terms,
+    )
 
 pub write_inside-write_two-requires : goal.write_inside-write_two-requires
 write_inside-write_two-requires t c =
     let falls = falls-two c.args.formula.now c.in-Implies.left c.in-Implies.right
     c.get.result.now c.get-in-Implies.result.now c.in-Implies.is c.get.ensures
     c.get-in-Implies.ensures in (
-  omega arith,
-  (
-    terms-left (Contains (terms_in c.args.graph.now)) c.args.formula.now c.in-Implies.left
-        c.in-Implies.right c.get.result.now c.in-Implies.is c.get.ensures c.requires.terms,
-    terms-right (Contains (terms_in c.args.graph.now)) c.args.formula.now c.in-Implies.left
-        c.in-Implies.right c.get-in-Implies.result.now c.in-Implies.is
-        c.get-in-Implies.ensures c.requires.terms,
-  ),
-)
+      omega arith,
+      (
+        terms-left (Contains (terms_in c.args.graph.now)) c.args.formula.now c.in-Implies.left
+            c.in-Implies.right c.get.result.now c.in-Implies.is c.get.ensures c.requires.terms,
+        terms-right (Contains (terms_in c.args.graph.now)) c.args.formula.now c.in-Implies.left
+            c.in-Implies.right c.get-in-Implies.result.now c.in-Implies.is
+            c.get-in-Implies.ensures c.requires.terms,
+      ),
+    )
 
 pub write_two-write-requires-2 : goal.write_two-write-requires-2
 write_two-write-requires-2 t c = (omega arith, c.requires.right)
@@ -151,10 +151,10 @@ pub write_all-write-requires : goal.write_all-write-requires
 write_all-write-requires t c =
     let falls = falls-item formula_size c.args.parts.now c.parts.part-index c.part-item.result
     c.parts-test.true c.part-item.is in (
-  omega arith,
-  subst (λ f. All (Contains (terms_in c.args.graph.now)) (terms_of f)) (sym c.part-item.is)
-      (c.requires.terms c.parts.part-index c.part-item.result c.parts-test.true),
-)
+      omega arith,
+      subst (λ f. All (Contains (terms_in c.args.graph.now)) (terms_of f)) (sym c.part-item.is)
+          (c.requires.terms c.parts.part-index c.part-item.result c.parts-test.true),
+    )
 
 pub write_all-parts-preserved : goal.write_all-parts-preserved
 write_all-parts-preserved t c = record {

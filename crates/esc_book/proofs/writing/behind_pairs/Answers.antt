@@ -4,6 +4,10 @@ use Rattle.esc_book.proofs.writing.behind_pairs.Goals as goal
 
 pub terms-preserved : goal.terms-preserved
 terms-preserved c = record {
-  end = omega (arith, c.in_ok-end.ensures, c.terms.invariant.end,
-      pair_count-more c.terms.place);
+  end = omega (
+    arith,
+    c.in_ok-end.ensures,
+    c.terms.invariant.end,
+    pair_count-more c.terms.place,
+  );
 }

@@ -31,8 +31,13 @@ bounds-nodes-row c =
     let are : length c.deref.result.now ≡ length c.self.inside.nodes =
     ap length (c.deref.ensures.value ∙ c.self.invariant.rows)
     ∙ length-rows_from 0 (length c.self.inside.nodes) in
-    omega (arith, c.if-row-eq0.false, c.partition_point-row.ensures.bound, are,
-    ap length c.as_slice-nodes.ensures)
+    omega (
+      arith,
+      c.if-row-eq0.false,
+      c.partition_point-row.ensures.bound,
+      are,
+      ap length c.as_slice-nodes.ensures,
+    )
 
 pub slice_bounds-others-count : goal.slice_bounds-others-count
 slice_bounds-others-count c =
@@ -64,8 +69,12 @@ overflow_sub-number c =
     let value : c.index.result.now ≡ get_or rows (row - 1) 0 =
     c.index.ensures ∙ (ap (λ rs. get_or rs (row - 1) c.index.result.now)
     (sym c.deref.ensures.value) ∙ get_or_default rows (row - 1) c.index.result.now 0 l) in
-    omega (arith, value, start_within c.self.inside.nodes rows c.args.number row are split bound
-    (row - 1) one)
+    omega (
+      arith,
+      value,
+      start_within c.self.inside.nodes rows c.args.number row are split bound
+          (row - 1) one,
+    )
 
 pub returns-in-Some : goal.returns-in-Some
 returns-in-Some c =
