@@ -7,6 +7,7 @@ mod Indexing
 mod Inside
 mod Laying
 mod Literals
+mod Locating
 mod Nested
 mod Pairs
 mod Reading

@@ -1,5 +1,6 @@
 -- How a table is read.
-use Rattle.std.specs.Prelude.{◌≡◌, ℕ, ◌+◌, ◌<◌, List, ◌++◌, drop, length, take, Some, None, slice_get}
+use Rattle.std.specs.Prelude.{◌≡◌, ℕ, ◌+◌, ◌<◌, List, ◌++◌, drop, length, take, Option}
+use Rattle.std.specs.Prelude.{Some, None, slice_get}
 use Rattle.std.specs.List.{flat_map}
 use Rattle.esc_term.specs.declared.formula.Formula.{Formula}
 use Rattle.esc_term.specs.declared.formula.Formula.TheVariants as formula
@@ -18,6 +19,11 @@ begin_at hs i = length (flat_map own (take i hs))
 pub record AreThere (hs : List Formula) (n : ℕ) (parts : List Formula) : Type 0 where
   pub rest : List Formula
   pub is : drop n hs ≡ flat_map heads_of parts ++ rest
+
+-- the pair there, if there is one
+abbrev pub pair_place : Option (ℕ × ℕ) → Place
+pair_place (Some pair) = place.Pair pair.0 pair.1
+pair_place None = place.Nowhere
 
 -- the entry there is of a formula that has its occurrence at the place, or the equation of two
 -- nodes' terms stands there, or nothing
