@@ -10,6 +10,7 @@ mod Literals
 mod Locating
 mod Nested
 mod Pairs
+mod Parts
 mod Reading
 mod Sizes
 mod Writings
