@@ -12,6 +12,7 @@ mod laws;
 mod live;
 mod page;
 mod record;
+mod saying_of;
 mod writing;
 
 pub use atom::Atom;
