@@ -77,7 +77,7 @@ form_Distinct ts (Formula-F.Distinct us) e = cc
 form_Distinct ts (Formula-F.LabelPos name part) e = cc
 form_Distinct ts (Formula-F.LabelNeg name part) e = cc
 
-other_kind : (g : Graph) (k : Kind) (ts : List Term)
+pub other_kind : (g : Graph) (k : Kind) (ts : List Term)
     → ((nodes : List ℕ) → k ≡ kind.Distinction nodes → ⊥) → told_kind g k ≡ Distinction ts → ⊥
 other_kind g (kind.Constant is_true) ts other e = cc
 other_kind g kind.Conjunction ts other e = cc
