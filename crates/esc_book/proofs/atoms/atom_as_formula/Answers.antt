@@ -32,7 +32,7 @@ returns-in-Equation c =
 
 pub returns-in_ok-term-in-Order : goal.returns-in_ok-term-in-Order
 returns-in_ok-term-in-Order c t told =
-    ap₂ formula.Less c.in_ok-left.ensures c.in_ok-term.ensures
+    ap₂ formula.Less c.in_ok-left-in-Order.ensures c.in_ok-term-in-Order.ensures
     ∙ sym (of_form (Order (node_term c.args.graph.now c.in-Order.a)
     (node_term c.args.graph.now c.in-Order.b)) t
     (ap (told_kind c.args.graph.now) (sym c.in-Order.is) ∙ told))
@@ -40,7 +40,7 @@ returns-in_ok-term-in-Order c t told =
 pub returns-in_ok-terms_of-in-Distinction : goal.returns-in_ok-terms_of-in-Distinction
 returns-in_ok-terms_of-in-Distinction c t told =
     let of = node_term c.args.graph.now in
-    ap formula.Distinct (c.in_ok-terms_of.ensures ∙ ap (map of) c.nodes.ensures)
+    ap formula.Distinct (c.in_ok-terms_of-in-Distinction.ensures ∙ ap (map of) c.nodes.ensures)
     ∙ sym (of_form (Distinction (map of c.in-Distinction.group)) t
     (ap (told_kind c.args.graph.now) (sym c.in-Distinction.is) ∙ told))
 
