@@ -1,0 +1,10 @@
+pub mod Atom
+pub mod Book
+pub mod BookInside
+pub mod BookUndo
+pub mod GroupInside
+pub mod Judging
+pub mod JudgingInside
+pub mod LiveInside
+pub mod ReadingInside
+pub mod WritingInside
