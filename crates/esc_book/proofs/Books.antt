@@ -11,7 +11,7 @@ use Rattle.std.specs.List.{All, AllPairs, Contains, slice_get}
 use Rattle.esc_term.specs.declared.term.Term.{Term}
 use Rattle.esc_term.specs.declared.term.Term.TheVariants as term
 use Rattle.esc_term.specs.declared.formula.Formula.{Formula}
-use Rattle.esc_branch.proofs.Together.{length-terms_of}
+use Rattle.esc_node_terms.proofs.Places.{length-terms_of}
 use Rattle.esc_nodes.specs.Terms.{at_place, term_of}
 use Rattle.esc_egraph.specs.Graph.{Graph}
 use Rattle.esc_sharing.specs.Nodes.{node_count, node_term, terms_in}
