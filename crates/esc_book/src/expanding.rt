@@ -183,12 +183,7 @@ fn distinct(alloc: Global, group: &Group, at: Occurrence) -> Result<Expanded, Al
 }
 
 /// The occurrences of the pairs of so many terms, which begin at a place.
-fn pairs_from(
-    alloc: Global,
-    count: usize,
-    fact: u64,
-    from: u64,
-) -> Result<Occurrences, AllocError>
+fn pairs_from(alloc: Global, count: usize, fact: u64, from: u64) -> Result<Occurrences, AllocError>
     ensures { IfOk result (λ parts. (ts : List Term) → length ts ≡ count
         → parts ≡ from_place fact from true (pair_equations ts)) }
 {
