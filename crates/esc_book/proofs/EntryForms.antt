@@ -17,10 +17,11 @@ use Rattle.esc_egraph.specs.Graph.{Graph}
 use Rattle.esc_book.specs.Book.{Constant, Conjunction, Disjunction, Negation, Implication, Form}
 use Rattle.esc_book.specs.Book.{Equivalence, Labelled, Equation, Order, Distinction, Quantified}
 use Rattle.esc_book.specs.Book.{HasNodes, IsPage, Outline, form_at, heads_of, told, told_kind}
-use Rattle.esc_book.specs.JudgingInside.{AreBetween, of_parts}
+use Rattle.esc_book.specs.JudgingInside.{AreBetween, HasNoParts, of_parts}
 use Rattle.esc_book.specs.ReadingInside.{AreThere}
 use Rattle.esc_book.specs.declared.entry.Entry.{Entry}
 use Rattle.esc_book.specs.declared.entry.Kind.{Kind}
+use Rattle.esc_book.specs.declared.entry.Kind.TheVariants as kind
 use Rattle.esc_book.proofs.HeadsLevels as heads
 use Rattle.esc_book.proofs.Nested.{first_there, heads_whole, later_there, parts_there}
 use Rattle.esc_book.proofs.Reading.{next_there, read}
@@ -121,12 +122,25 @@ module _ (g : Graph) (f : Formula) (page : List Entry) (is : IsPage g f page) (i
       ∙ (ap (λ (o : Outline). o.form) found.1.outline
       ∙ ap (λ x. form_at (out-Formula x)) same)
 
-  pub form_there : (s : Formula) (kind : Kind) → slice_get (heads_of f) i ≡ Some s
-      → e.kind ≡ kind → IsOf (told_kind g kind) s
-  form_there s kind there at_kind =
-      of_form (told_kind g kind) s (ap (told_kind g) (sym at_kind) ∙ kind_there s there)
+  pub form_there : (s : Formula) (k : Kind) → slice_get (heads_of f) i ≡ Some s
+      → e.kind ≡ k → IsOf (told_kind g k) s
+  form_there s k there at_kind =
+      of_form (told_kind g k) s (ap (told_kind g) (sym at_kind) ∙ kind_there s there)
 
   pub nodes_there : HasNodes g e.kind
   nodes_there =
       subst (λ (x : Entry). HasNodes g x.kind) (sym is_e)
       (All-get_or (λ (x : Entry). HasNodes g x.kind) page i e l is.nodes)
+
+-- ---- kinds without parts
+
+pub no_parts : (k : Kind) → ((b : Bool) × (k ≡ kind.Constant b))
+    ⊎ (((a : ℕ) × (b : ℕ) × (k ≡ kind.Equation a b))
+    ⊎ (((a : ℕ) × (b : ℕ) × (k ≡ kind.Order a b))
+    ⊎ (((nodes : List ℕ) × (k ≡ kind.Distinction nodes))
+    ⊎ ((f : Formula) × (k ≡ kind.Quantified f))))) → HasNoParts k
+no_parts k (inl (b, e)) = subst HasNoParts (sym e) tt
+no_parts k (inr (inl (a, b, e))) = subst HasNoParts (sym e) tt
+no_parts k (inr (inr (inl (a, b, e)))) = subst HasNoParts (sym e) tt
+no_parts k (inr (inr (inr (inl (nodes, e))))) = subst HasNoParts (sym e) tt
+no_parts k (inr (inr (inr (inr (f, e))))) = subst HasNoParts (sym e) tt

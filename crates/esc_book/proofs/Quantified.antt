@@ -1,11 +1,11 @@
 -- Entries of quantified formulas, and literals that are quantified.
 use Rattle.std.proofs.Common.{◌≡◌, ℕ, ◌+◌, ◌<◌, Bool, true, false, not, ◌||◌, List, [], ◌∷◌, ◌++◌}
-use Rattle.std.proofs.Common.{Some, None, length, get_or, take, refl, ap, sym, ◌∙◌}
+use Rattle.std.proofs.Common.{Some, None, Option, length, get_or, take, refl, ap, sym, ◌∙◌}
 use Rattle.std.proofs.lemmas.List.{take_more}
 use Rattle.std.proofs.lemmas.List.Elements.{filter_map-append}
 use Rattle.std.proofs.lemmas.List.Folds.{list_any-append}
 use Rattle.std.specs.List.{cons_option, slice_get}
-use Rattle.std.specs.Option.{option_map}
+use Rattle.std.specs.Option.{IsSome, option_map}
 use Rattle.esc_term.specs.declared.term.Term.{Term}
 use Rattle.esc_term.specs.declared.formula.Formula.{Formula}
 use Rattle.esc_term.specs.declared.formula.Formula.TheVariants as formula
@@ -82,6 +82,10 @@ module _ (g : Graph) (k : Kind) (f s : Formula) (quantified : is_quantified_form
       (is ∙ (ap (λ x. form_at (out-Formula x)) e ∙ quantified_form f quantified))
 
 -- ---- literals
+
+pub some_there : (o : Option Formula) → IsSome o → (f : Formula) × (o ≡ Some f)
+some_there None is = cc
+some_there (Some f) is = (f, refl)
 
 module _ (v : BookView) (f : Formula) where
   module _ (at : Occurrence) (h : Formula) (there : formula_at v.logged at ≡ Some h) where

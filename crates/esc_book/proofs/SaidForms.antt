@@ -1,6 +1,6 @@
 -- What is said of formulas of each form.
-use Rattle.std.proofs.Common.{◌≡◌, ◌⊎◌, inl, inr, Bool, true, false, not, ◌&&◌, ◌||◌, refl, ap, ap₂}
-use Rattle.std.proofs.Common.{sym, subst, ◌∙◌}
+use Rattle.std.proofs.Common.{◌≡◌, ◌⊎◌, inl, inr, Bool, true, false, not, ◌&&◌, ◌||◌, List}
+use Rattle.std.proofs.Common.{◌∷◌, ◌++◌, refl, ap, ap₂, sym, subst, ◌∙◌}
 use denote.Hole.Carrier.{roll}
 use Rattle.esc_term.specs.declared.term.Sym.{Sym}
 use Rattle.esc_term.specs.declared.formula.Formula.{Formula}
@@ -14,11 +14,12 @@ use Rattle.esc_cover.specs.Cover.{Cover, by_literal}
 use Rattle.esc_sharing.specs.Unquantified.{is_quantified_form}
 use Rattle.esc_said.specs.Speaking.{SaysAs}
 use Rattle.esc_said.specs.declared.said.Said.{Said}
-use Rattle.esc_book.specs.Book.{Constant, Quantified, form_at}
+use Rattle.esc_book.specs.Book.{Constant, Quantified, form_at, heads_of}
 use Rattle.esc_book.specs.Judging.{classes_for, literals_for}
-use Rattle.esc_book.specs.JudgingInside.{cover_by}
+use Rattle.esc_book.specs.JudgingInside.{cover_by, of_parts}
 use Rattle.esc_book.specs.declared.judge.BookJudge.{BookJudge}
 use Rattle.esc_book.proofs.EntryForms.{IsOf, of_form}
+use Rattle.esc_book.proofs.HeadsLevels as heads
 use Rattle.esc_book.proofs.SaidParts.{as_cover, as_said}
 
 pub says_same : (said : Said) (c d : Cover) → c ≡ d → SaysAs said c → SaysAs said d
@@ -120,3 +121,31 @@ module _ (j : BookJudge) (s : Formula) where
           fails = fails ∙ (ap₂ (λ (c d : Cover). (c.holds && d.fails) || (c.fails && d.holds))
               one other ∙ ap (λ c. c.fails) (sym is));
         })
+
+  pub said_of-parts : (all : Bool) (ps : List Formula) (said : Said) → s ≡ of_parts all ps
+      → SaysAs said (cover_by j (of_parts all ps)) → SaysAs said (cover_by j s)
+  said_of-parts all ps said e says =
+      says_same said (cover_by j (of_parts all ps)) (cover_by j s) (ap (cover_by j) (sym e)) says
+
+-- ---- the formulas behind
+
+pub heads-Not : (s p : Formula) → s ≡ formula.Not p → heads_of s ≡ s ∷ heads_of p
+heads-Not s p e = subst (λ x. heads_of x ≡ x ∷ heads_of p) (sym e) (heads.heads_of-Not p)
+
+pub heads-Labelled : (s p : Formula) (name : Sym)
+    → (s ≡ formula.LabelPos name p) ⊎ (s ≡ formula.LabelNeg name p)
+    → heads_of s ≡ s ∷ heads_of p
+heads-Labelled s p name (inl e) =
+    subst (λ x. heads_of x ≡ x ∷ heads_of p) (sym e) (heads.heads_of-LabelPos name p)
+heads-Labelled s p name (inr e) =
+    subst (λ x. heads_of x ≡ x ∷ heads_of p) (sym e) (heads.heads_of-LabelNeg name p)
+
+pub heads-Implies : (s p q : Formula) → s ≡ formula.Implies p q
+    → heads_of s ≡ s ∷ (heads_of p ++ heads_of q)
+heads-Implies s p q e =
+    subst (λ x. heads_of x ≡ x ∷ (heads_of p ++ heads_of q)) (sym e) (heads.heads_of-Implies p q)
+
+pub heads-Iff : (s p q : Formula) → s ≡ formula.Iff p q
+    → heads_of s ≡ s ∷ (heads_of p ++ heads_of q)
+heads-Iff s p q e =
+    subst (λ x. heads_of x ≡ x ∷ (heads_of p ++ heads_of q)) (sym e) (heads.heads_of-Iff p q)
