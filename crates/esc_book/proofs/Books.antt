@@ -1,6 +1,7 @@
 -- Books whose log grows or is cut, whose facts become live, and over more terms.
 use Rattle.std.proofs.Common.{◌≡◌, ◌⊎◌, inl, inr, ℕ, suc, zero, ◌+◌, ◌<◌, ◌≤◌, List, [], ◌∷◌, ◌++◌}
-use Rattle.std.proofs.Common.{Some, None, Option, length, map, take, get_or, refl, ap, ap₂, sym, subst}
+use Rattle.std.proofs.Common.{Some, None, Option, length, map, take, get_or, refl, ap, ap₂, sym}
+use Rattle.std.proofs.Common.{subst}
 use Rattle.std.proofs.Common.{◌∙◌, Ok, Err, Result, OnErr, OnOk, append-nil, arith, length-append}
 use Rattle.std.proofs.lemmas.List.{take_all}
 use Rattle.std.proofs.lemmas.List.Elements.{All-contains, All-head, All-nil, All-push, All-tail}

@@ -1,3 +1,4 @@
+mod AtomForms
 mod BookNotes
 mod Books
 mod EntryForms
@@ -9,9 +10,12 @@ mod Inside
 mod JudgedFacts
 mod Laying
 mod Literals
+mod LiveForms
 mod Locating
 mod Nested
+mod PairRuns
 mod Pairs
+mod PartForms
 mod Parts
 mod Quantified
 mod Reading

@@ -1,6 +1,8 @@
 -- What is read of a table.
-use Rattle.std.proofs.Common.{◌≡◌, ℕ, suc, zero, ◌+◌, ◌-◌, ◌<◌, ◌≤◌, List, [], ◌∷◌, ◌++◌, Some, None}
-use Rattle.std.proofs.Common.{Option, length, map, take, drop, get_or, refl, ap, ap₂, sym, subst, ◌∙◌}
+use Rattle.std.proofs.Common.{◌≡◌, ℕ, suc, zero, ◌+◌, ◌-◌, ◌<◌, ◌≤◌, List, [], ◌∷◌, ◌++◌, Some}
+use Rattle.std.proofs.Common.{None}
+use Rattle.std.proofs.Common.{Option, length, map, take, drop, get_or, refl, ap, ap₂, sym, subst}
+use Rattle.std.proofs.Common.{◌∙◌}
 use Rattle.std.proofs.Common.{arith, length-append}
 use Rattle.std.proofs.lemmas.List.{append-nil, length-map, take-append-drop, take_at, drop-drop}
 use Rattle.std.proofs.lemmas.List.Concat.{flat_map-append}

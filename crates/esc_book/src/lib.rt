@@ -3,9 +3,11 @@
 #![tactic(auto)]
 
 mod atom;
+mod atoms;
 mod book;
 mod entry;
 mod expanded;
+mod expanding;
 mod group;
 mod judge;
 mod laws;

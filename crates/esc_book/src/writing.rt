@@ -132,7 +132,7 @@ fn write_all(
 }
 
 /// The place behind the pairs of so many terms.
-fn behind_pairs(start: u64, count: usize) -> Result<u64, AllocError>
+pub(crate) fn behind_pairs(start: u64, count: usize) -> Result<u64, AllocError>
     ensures { IfOk result (λ end. end ≡ start + pair_count count) }
 {
     let mut end = start;
