@@ -11,9 +11,10 @@ use Rattle.esc_term.specs.declared.formula.Quant.{Quant}
 use Rattle.esc_egraph.specs.Graph.{Graph}
 use Rattle.esc_sharing.specs.Unquantified.{is_quantified_form}
 use Rattle.esc_book.specs.Atom.{is_atom_form}
-use Rattle.esc_book.specs.Book.{Constant, Conjunction, Disjunction, Negation, Implication, Form}
-use Rattle.esc_book.specs.Book.{Equivalence, Labelled, Equation, Order, Distinction, Quantified}
+use Rattle.esc_book.specs.Book.{Form}
+use Rattle.esc_book.specs.Book.{Equation, Order, Distinction, Quantified}
 use Rattle.esc_book.specs.Book.{form_at, told_kind}
+use Rattle.esc_book.specs.ReadingInside.{IsAtomKind}
 use Rattle.esc_book.specs.declared.entry.Kind.{Kind}
 use Rattle.esc_book.specs.declared.entry.Kind.TheVariants as kind
 use Rattle.esc_book.proofs.Locating.{other_kind}
@@ -81,6 +82,23 @@ module _ (g : Graph) where
       absurd (no_distinction nodes refl)
   other_atom (kind.Quantified f) no_equation no_order no_distinction e = refl
 
+  kind_of_atom : (k : Kind) → is_atom (told_kind g k) ≡ true → IsAtomKind k
+  kind_of_atom (kind.Constant is_true) e = cc
+  kind_of_atom kind.Conjunction e = cc
+  kind_of_atom kind.Disjunction e = cc
+  kind_of_atom kind.Negation e = cc
+  kind_of_atom kind.Implication e = cc
+  kind_of_atom kind.Equivalence e = cc
+  kind_of_atom kind.Labelled e = cc
+  kind_of_atom (kind.Equation a b) e = tt
+  kind_of_atom (kind.Order a b) e = tt
+  kind_of_atom (kind.Distinction nodes) e = tt
+  kind_of_atom (kind.Quantified f) e = tt
+
+  pub atom_kind : (k : Kind) (y : Formula-F Formula Quant) → told_kind g k ≡ form_at y
+      → is_atom_form y ≡ true → IsAtomKind k
+  atom_kind k y same atom = kind_of_atom k (ap is_atom same ∙ (sym (atom-form y) ∙ atom))
+
   -- an atom of no other kind is quantified
   pub quantified_atom : (k : Kind) (y : Formula-F Formula Quant)
       → ((a b : ℕ) → k ≡ kind.Equation a b → ⊥) → ((a b : ℕ) → k ≡ kind.Order a b → ⊥)
@@ -98,3 +116,23 @@ module _ (g : Graph) where
   is_distinction k ts other same =
       other_kind g k ts other
       (same ∙ ap form_at (out-roll-Formula (Formula-F.Distinct ts)))
+
+pub some_atom : (k : Kind) → ((a b : ℕ) → k ≡ kind.Equation a b → ⊥)
+    → ((a b : ℕ) → k ≡ kind.Order a b → ⊥)
+    → ((nodes : List ℕ) → k ≡ kind.Distinction nodes → ⊥)
+    → ((f : Formula) → k ≡ kind.Quantified f → ⊥) → IsAtomKind k → ⊥
+some_atom (kind.Constant is_true) no_equation no_order no_distinction no_quantified h = h
+some_atom kind.Conjunction no_equation no_order no_distinction no_quantified h = h
+some_atom kind.Disjunction no_equation no_order no_distinction no_quantified h = h
+some_atom kind.Negation no_equation no_order no_distinction no_quantified h = h
+some_atom kind.Implication no_equation no_order no_distinction no_quantified h = h
+some_atom kind.Equivalence no_equation no_order no_distinction no_quantified h = h
+some_atom kind.Labelled no_equation no_order no_distinction no_quantified h = h
+some_atom (kind.Equation a b) no_equation no_order no_distinction no_quantified h =
+    no_equation a b refl
+some_atom (kind.Order a b) no_equation no_order no_distinction no_quantified h =
+    no_order a b refl
+some_atom (kind.Distinction nodes) no_equation no_order no_distinction no_quantified h =
+    no_distinction nodes refl
+some_atom (kind.Quantified f) no_equation no_order no_distinction no_quantified h =
+    no_quantified f refl

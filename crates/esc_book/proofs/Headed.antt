@@ -1,6 +1,7 @@
 -- A formula that is written before what stands behind it, and formulas that are written in turn.
-use Rattle.std.proofs.Common.{◌≡◌, ℕ, ◌+◌, ◌<◌, List, [], ◌∷◌, ◌++◌, length, take, drop, set, get_or}
-use Rattle.std.proofs.Common.{Ok, Err, Result, IfOk, refl, ap, ap₂, sym, subst, ◌∙◌, arith}
+use Rattle.std.proofs.Common.{◌≡◌, ℕ, ◌+◌, ◌<◌, List, [], ◌∷◌, ◌++◌, length, take, drop, set}
+use Rattle.std.proofs.Common.{get_or}
+use Rattle.std.proofs.Common.{Ok, Err, Result, IfOk, ap, ap₂, sym, subst, ◌∙◌, arith}
 use Rattle.std.proofs.Common.{length-append}
 use Rattle.std.proofs.lemmas.List.{append-nil, take_more}
 use Rattle.std.proofs.lemmas.List.Concat.{flat_map-append}
@@ -30,11 +31,12 @@ module _ (g : Graph) (f : Formula) where
       → Writes g (inside_of f) (behind_own inside f) pushed mid end → next ≡ length mid
       → new ≡ set mid index (record { begin = start; next = next; kind = kind })
       → Writes g (heads_of f) start old new end
-  written-heads kind start inside index next end hidden old pushed mid new is_kind at_inside at_index
-      at_pushed w at_next at_new =
+  written-heads kind start inside index next end hidden old pushed mid new is_kind at_inside
+      at_index at_pushed w at_next at_new =
       let by_place : Writes g (inside_of f) (behind_own (start + 1) f) pushed mid end =
       subst (λ n. Writes g (inside_of f) (behind_own n f) pushed mid end) at_inside w in
-      let by_list : Writes g (inside_of f) (behind_own (start + 1) f) (old ++ (hidden ∷ [])) mid end =
+      let by_list : Writes g (inside_of f) (behind_own (start + 1) f) (old ++ (hidden ∷ [])) mid
+      end =
       subst (λ es. Writes g (inside_of f) (behind_own (start + 1) f) es mid end) at_pushed
       by_place in
       subst (λ es. Writes g (heads_of f) start old es end)

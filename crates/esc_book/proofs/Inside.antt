@@ -1,8 +1,8 @@
 -- What is written behind a formula, by its form.
-use Rattle.std.proofs.Common.{◌≡◌, ◌⊎◌, inl, inr, ℕ, ◌+◌, ◌<◌, List, [], ◌∷◌, ◌++◌, length, drop, map}
-use Rattle.std.proofs.Common.{refl, ap, ap₂, sym, subst, ◌∙◌, arith}
+use Rattle.std.proofs.Common.{◌≡◌, ◌⊎◌, inl, inr, ℕ, ◌+◌, List, [], ◌∷◌, ◌++◌, length, drop}
+use Rattle.std.proofs.Common.{ap, ap₂, sym, subst, ◌∙◌, arith}
 use Rattle.std.proofs.lemmas.List.Elements.{All-contains}
-use Rattle.std.specs.List.{All, Contains, flat_map}
+use Rattle.std.specs.List.{All, flat_map}
 use denote.Hole.Carrier.{roll}
 use Rattle.esc_term.specs.declared.term.Sym.{Sym}
 use Rattle.esc_term.specs.declared.term.Term.{Term}
@@ -148,13 +148,15 @@ module _ (g : Graph) (n : ℕ) (old : List Entry) where
       let place : behind_own n (formula.Distinct ts) ≡ end =
       omega (arith, is, counted, ap length pairs, length-pair_equations ts) in
       subst (λ m. Writes g (inside_of (formula.Distinct ts)) m old old end) (sym place)
-      (subst (λ l. Writes g l end old old end) (sym (ap (λ l. drop 1 l) (heads.heads_of-Distinct ts)))
+      (subst (λ l. Writes g l end old old end)
+      (sym (ap (λ l. drop 1 l) (heads.heads_of-Distinct ts)))
       (writes_none g end old))
 
 -- ---- the terms of the parts
 
 module _ (P : Term → Type 0) where
-  of_form : (f g : Formula) → f ≡ g → (xs : List Term) → terms_of g ≡ xs → All P (terms_of f) → All P xs
+  of_form : (f g : Formula) → f ≡ g → (xs : List Term) → terms_of g ≡ xs → All P (terms_of f)
+      → All P xs
   of_form f g e xs is all = subst (λ l. All P l) (ap terms_of e ∙ is) all
 
   pub terms-parts : (f : Formula) (gs ps : List Formula)

@@ -1,6 +1,6 @@
 -- What the formula of an entry expands to, by the kind of the entry.
-use Rattle.std.proofs.Common.{◌≡◌, ℕ, suc, ◌+◌, ◌<◌, Bool, true, false, not, List, [], ◌∷◌, ◌++◌, Some}
-use Rattle.std.proofs.Common.{length, map, get_or, refl, ap, sym, subst, ◌∙◌, arith, inl, inr}
+use Rattle.std.proofs.Common.{◌≡◌, ℕ, suc, ◌+◌, ◌<◌, Bool, true, false, not, List, [], ◌∷◌, ◌++◌}
+use Rattle.std.proofs.Common.{Some, length, map, get_or, refl, ap, sym, subst, ◌∙◌, arith, inl, inr}
 use Rattle.std.proofs.Common.{if◌then◌else◌}
 use Rattle.std.proofs.lemmas.List.{append-nil, length-map}
 use Rattle.std.specs.List.{flat_map, slice_get}
@@ -12,12 +12,12 @@ use Rattle.esc_term.specs.declared.formula.Formula.TheOpen.{Formula-F}
 use Rattle.esc_term.specs.declared.formula.Formula.TheViews.{out-Formula, out-roll-Formula}
 use Rattle.esc_term.specs.declared.formula.Formula.TheViews.{roll-Formula}
 use Rattle.esc_term.specs.declared.formula.Quant.{Quant}
-use Rattle.esc_clause.specs.Expansion.{AllOf, Expansion, Literal, Never, OneOfEach, expanded_form}
+use Rattle.esc_clause.specs.Expansion.{AllOf, Expansion, Literal, OneOfEach, expanded_form}
 use Rattle.esc_clause.specs.Expansion.{from_place, parts_at}
 use Rattle.esc_clause.specs.declared.occurrence.Occurrence.{Occurrence}
 use Rattle.esc_egraph.specs.Graph.{Graph}
 use Rattle.esc_sharing.specs.Nodes.{node_term}
-use Rattle.esc_book.specs.Book.{IsPage, heads_of, own, pairs_form}
+use Rattle.esc_book.specs.Book.{IsPage, heads_of, pairs_form}
 use Rattle.esc_book.specs.JudgingInside.{AreBetween}
 use Rattle.esc_book.specs.ReadingInside.{AreThere, begin_at, both_from, expanded_to, settled_as}
 use Rattle.esc_book.specs.declared.entry.Entry.{Entry}
@@ -115,10 +115,12 @@ module _ (g : Graph) (f : Formula) (page : List Entry) (is : IsPage g f page) (i
   unfolding roll-Formula roll
   expands-Constant true of_kind =
       true-form at at.positive
-      ∙ sym (form_is Formula-F.True (form_there g f page is i e l is_e s (kind.Constant true) there of_kind))
+      ∙ sym (form_is Formula-F.True
+      (form_there g f page is i e l is_e s (kind.Constant true) there of_kind))
   expands-Constant false of_kind =
       false-form at at.positive
-      ∙ sym (form_is Formula-F.False (form_there g f page is i e l is_e s (kind.Constant false) there of_kind))
+      ∙ sym (form_is Formula-F.False
+      (form_there g f page is i e l is_e s (kind.Constant false) there of_kind))
 
   pub expands-Conjunction : e.kind ≡ kind.Conjunction → Expands (at.place + 1)
       (λ ps. expanded_to at.positive (from_place at.fact (at.place + 1) at.positive ps))

@@ -71,7 +71,8 @@ told_quantified g (kind.Order a b) f e = cc
 told_quantified g (kind.Distinction nodes) f e = cc
 told_quantified g (kind.Quantified h) f e = let same : h ≡ f = cc in ap kind.Quantified same
 
-module _ (g : Graph) (k : Kind) (f s : Formula) (quantified : is_quantified_form (out-Formula f) ≡ true)
+module _ (g : Graph) (k : Kind) (f s : Formula)
+    (quantified : is_quantified_form (out-Formula f) ≡ true)
     (is : told_kind g k ≡ form_at (out-Formula s)) where
   pub kind_same : k ≡ kind.Quantified f → s ≡ f
   kind_same e = sym (of_form (Quantified f) s (sym (ap (told_kind g) e) ∙ is)).0

@@ -1,8 +1,8 @@
 -- What is said of formulas one after the other, whose entries stand side by side.
-use Rattle.std.proofs.Common.{◌≡◌, ℕ, suc, zero, ◌+◌, ◌<◌, ◌≤◌, Bool, true, false, ◌&&◌, ◌||◌}
-use Rattle.std.proofs.Common.{List, [], ◌∷◌, ◌++◌, Some, length, refl, ap, ap₂, sym, subst, ◌∙◌, arith}
+use Rattle.std.proofs.Common.{◌≡◌, ℕ, ◌+◌, ◌<◌, ◌≤◌, Bool, true, false, ◌&&◌, ◌||◌}
+use Rattle.std.proofs.Common.{List, [], ◌∷◌, Some, length, refl, ap, ap₂, sym, ◌∙◌, arith}
 use Rattle.std.proofs.Common.{length-append}
-use Rattle.std.specs.List.{flat_map, list_all, list_any, slice_get}
+use Rattle.std.specs.List.{flat_map, slice_get}
 use Rattle.esc_term.specs.declared.formula.Formula.{Formula}
 use Rattle.esc_cover.proofs.CoverLevels.{cover-And, cover-Or}
 use Rattle.esc_cover.specs.Cover.{Cover}

@@ -1,6 +1,7 @@
 //! What the atoms of entries say.
 
-ghost use Rattle.std.specs.Prelude.{◌≡◌, ◌<◌, Some, None, IfOk, IfSome, List, map, slice_get, true};
+ghost use Rattle.std.specs.Prelude.{◌≡◌, ◌<◌, Some, None, IfOk, IfSome, List};
+ghost use Rattle.std.specs.Prelude.{map, slice_get, true};
 ghost use Rattle.std.specs.List.{All};
 ghost use Rattle.esc_term.specs.declared.term.Term.{Term};
 ghost use Rattle.esc_term.specs.declared.formula.Formula.{Formula};
@@ -10,6 +11,7 @@ ghost use Rattle.esc_egraph.specs.Graph.{Graph};
 ghost use Rattle.esc_sharing.specs.Nodes.{node_count, node_term};
 ghost use Rattle.esc_book.specs.Atom.{IsAtomOf, IsGroupOf, is_atom_form};
 ghost use Rattle.esc_book.specs.Book.{HasNodes, IsPage, form_at, heads_of, told_kind};
+ghost use Rattle.esc_book.specs.ReadingInside.{IsAtomEntry, IsAtomKind};
 
 use crate::atom::Atom;
 use crate::entry::{Entry, Kind};
@@ -57,19 +59,20 @@ pub(crate) fn formula_of(
     page: &[Entry],
     index: usize,
 ) -> Result<Formula, AllocError>
-    requires { (f : Formula) × IsPage graph.now f page.now }
+    requires { IsAtomEntry graph.now page.now index }
     ensures { IfOk result (λ s. (f : Formula) → IsPage graph.now f page.now
         → slice_get (heads_of f) index ≡ Some s) }
 {
     let Some(entry) = page.get(index) else {
-        return Err(AllocError);
+        unreachable!()
     };
     atom_as_formula(alloc, graph, &entry.kind)
 }
 
 /// The atom of a kind, as a formula. It fails only where memory is wanting.
 fn atom_as_formula(alloc: Global, graph: &EGraph, kind: &Kind) -> Result<Formula, AllocError>
-    requires { HasNodes graph.now kind.now }
+    requires nodes { HasNodes graph.now kind.now }
+    requires atom { IsAtomKind kind.now }
     ensures { IfOk result (λ s. (t : Formula)
         → told_kind graph.now kind.now ≡ form_at (out-Formula t) → s ≡ t) }
 {
@@ -83,7 +86,7 @@ fn atom_as_formula(alloc: Global, graph: &EGraph, kind: &Kind) -> Result<Formula
             Ok(Formula::Distinct(terms_of(alloc, graph, group.nodes())?))
         }
         Kind::Quantified(formula) => formula.copy(alloc),
-        _ => Err(AllocError),
+        _ => unreachable!(),
     }
 }
 

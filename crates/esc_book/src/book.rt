@@ -1,6 +1,7 @@
 //! Books.
 
-ghost use Rattle.std.specs.Prelude.{◌≡◌, ◌↔◌, ◌<◌, ◌≤◌, [], ◌∷◌, ◌++◌, length, take, IfOk, OnOk, OnErr};
+ghost use Rattle.std.specs.Prelude.{◌≡◌, ◌↔◌, ◌<◌, ◌≤◌, [], ◌∷◌, ◌++◌, length, take, IfOk, OnOk};
+ghost use Rattle.std.specs.Prelude.{OnErr};
 ghost use Rattle.std.specs.Prelude.{IfSome, IsTrue, MatchOption, Some, None, false, slice_get};
 ghost use Rattle.std.specs.List.{All, Contains};
 ghost use Rattle.esc_trail.specs.Undo.{Notes};

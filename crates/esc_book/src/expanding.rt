@@ -13,7 +13,8 @@ ghost use Rattle.esc_clause.specs.Expansion.{OneOfEach, expanded_form, from_plac
 ghost use Rattle.esc_book.specs.Atom.{expansion_of};
 ghost use Rattle.esc_book.specs.Book.{IsPage, heads_of};
 ghost use Rattle.esc_book.specs.JudgingInside.{AreBetween};
-ghost use Rattle.esc_book.specs.ReadingInside.{AreThere, begin_at, both_from, expanded_to, settled_as};
+ghost use Rattle.esc_book.specs.ReadingInside.{AreThere, begin_at, both_from, expanded_to};
+ghost use Rattle.esc_book.specs.ReadingInside.{settled_as};
 
 use crate::entry::{Entry, Kind};
 use crate::expanded::Expanded;

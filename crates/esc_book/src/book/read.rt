@@ -94,12 +94,12 @@ impl Book {
         ensures { IfOk result (λ f. formula_at self.now.logged at ≡ Some f) }
     {
         let Some(page) = self.page(at.fact) else {
-            return Err(AllocError);
+            unreachable!()
         };
         match locate(page, at.place) {
             Place::Entry(index) => formula_of(self.alloc, graph, page, index),
             Place::Pair(a, b) => equation_of(graph, a, b),
-            Place::Nowhere => Err(AllocError),
+            Place::Nowhere => unreachable!(),
         }
     }
 }

@@ -1,13 +1,37 @@
-use Rattle.std.proofs.Common.{Some, ap, sym, ◌∙◌}
+use Rattle.std.proofs.Common.{Some, ap, refl, sym, ◌∙◌}
 use Rattle.esc_term.specs.declared.formula.Formula.{Formula}
-use Rattle.esc_book.proofs.LiveForms.{if_ok, is_at, is_pair, stands}
+use Rattle.esc_book.proofs.LiveForms.{atom-at, if_ok, is_at, is_pair, is_somewhere, not_dead}
+use Rattle.esc_book.proofs.LiveForms.{stands}
 use Rattle.esc_book.proofs.book.Book.formula.Goals as goal
+
+pub unreachable-requires : goal.unreachable-requires
+unreachable-requires c =
+    not_dead c.args.self.now c.args.at c.requires.live (c.in_default.ensures.none refl)
+
+pub unreachable-requires-in-Nowhere : goal.unreachable-requires-in-Nowhere
+unreachable-requires-in-Nowhere c =
+    let g = c.args.graph.now in
+    let v = c.args.self.now in
+    let page = c.in-Some.page.now in
+    let st = stands g v c.args.at page c.requires.book c.requires.live c.in-Some.ensures.some in
+    is_somewhere g v c.args.at page st c.locate.result (c.locate.ensures g st.whole st.is_page)
+    c.requires.live c.in-Nowhere.is
 
 pub formula_of-requires : goal.formula_of-requires
 formula_of-requires c =
-    let st = stands c.args.graph.now c.args.self.now c.args.at c.in-Some.page.now c.requires.book
-    c.requires.live c.in-Some.ensures.some in
-    (st.whole, st.is_page)
+    let g = c.args.graph.now in
+    let v = c.args.self.now in
+    let page = c.in-Some.page.now in
+    let st = stands g v c.args.at page c.requires.book c.requires.live c.in-Some.ensures.some in
+    let here = is_at g v c.args.at page st c.locate.result
+    (c.locate.ensures g st.whole st.is_page) c.in-Entry.index c.in-Entry.is in
+    record {
+      whole = st.whole;
+      is_page = st.is_page;
+      atom = here.of;
+      there = here.head;
+      is_atom = atom-at v.logged c.args.at here.of here.is c.requires.atom;
+    }
 
 pub equation_of-requires : goal.equation_of-requires
 equation_of-requires c =
