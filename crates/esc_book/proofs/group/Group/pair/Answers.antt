@@ -100,8 +100,8 @@ returns-in-Some c =
     c.as_slice-nodes.ensures ∙ get_or_default nodes (row - 1) c.index-nodes-row.result 0 within) in
     let pair = pair_is nodes rows c.args.number row are split bound (row - 1) one in
     let found = c.in-Some.ensures.lookup in
-    let there : slice_get (drop row c.as_slice-nodes.result.now) (c.args.number - c.index.result.now)
-    ≡ Some c.in-Some.other.now =
+    let there : slice_get (drop row c.as_slice-nodes.result.now)
+    (c.args.number - c.index.result.now) ≡ Some c.in-Some.other.now =
     other_there c.as_slice-nodes.result.now row (c.args.number - c.index.result.now)
     c.in-Some.other.now found.3.0 found.1 in
     subst (λ ns. Some (c.index-nodes-row.result, c.in-Some.other.now)
