@@ -2,7 +2,7 @@
 
 ghost use Rattle.esc_answering.specs.Laws.{AnswersAreSharp, AnswersAreSound};
 
-use esc_outcome::{jam_laws, plain_laws};
+use esc_outcome::plain_laws;
 use esc_reports::goal_laws;
 
 /// A goal that is answered is valid only where its negation is refuted. Where it has no arithmetic
@@ -13,6 +13,5 @@ pub fn answer_laws()
     ensures sharp { AnswersAreSharp }
 {
     goal_laws();
-    jam_laws();
     plain_laws();
 }

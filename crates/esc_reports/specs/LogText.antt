@@ -38,11 +38,6 @@ fact_text names (fact.Map1 m i x) = three_terms_text names (codes "map1 (") m i 
 fact_text names (fact.Map2 m i x j) =
     three_terms_text names (codes "map2 (") m i x ++ (next_term_text names j ++ closing)
 
--- the place of a fact behind a margin, and how it is drawn
-abbrev pub placed_text : List (List ℕ) → List ℕ → ℕ → Fact → List ℕ
-placed_text names margin place fact =
-    margin ++ (decimal place ++ (blank ++ fact_text names fact))
-
 -- a fact at its place in the log, with its formula
 pub record Entry : Type 0 where
   pub place : ℕ
@@ -59,10 +54,16 @@ entries_from place (fact ∷ facts) [] = []
 entries_from place (fact ∷ facts) (formula ∷ formulas) =
     entry place fact formula ∷ entries_from (place + 1) facts formulas
 
+unfoldable pub margin : List ℕ
+margin = codes "  "
+
+-- the formula of a fact, to the end of its line
+unfoldable pub formula_end : List (List ℕ) → Formula → List ℕ
+formula_end names f = codes ": " ++ (formula_text names f ++ codes "\n")
+
 unfoldable pub entry_text : List (List ℕ) → Entry → List ℕ
 entry_text names e =
-    placed_text names (codes "  ") e.place e.fact
-    ++ (codes ": " ++ (formula_text names e.formula ++ codes "\n"))
+    margin ++ (decimal e.place ++ (blank ++ (fact_text names e.fact ++ formula_end names e.formula)))
 
 -- each fact on a line of its own, at its place from 0
 abbrev pub entries_text : List (List ℕ) → List Fact → List Formula → List ℕ

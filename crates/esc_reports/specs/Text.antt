@@ -40,9 +40,11 @@ cause_text (Overflow branch stuck) = codes "arithmetic overflow"
 cause_text (Pivots branch stuck) = codes "pivot limit"
 cause_text (Splits branch next) = codes "split limit"
 
+unfoldable pub cause_line : Cause → List ℕ
+cause_line cause = codes ": Unknown (" ++ (cause_text cause ++ codes ").\n")
+
 abbrev pub unknown_text : ℕ → Cause → List ℕ
-unknown_text goal cause =
-    decimal goal ++ (codes ": Unknown (" ++ (cause_text cause ++ codes ").\n"))
+unknown_text goal cause = goal_line goal (cause_line cause)
 
 -- ---- commands that are refused, and want of memory
 

@@ -38,7 +38,7 @@ fn put_names_between<K: Sink>(
     put_all(sink, behind)
 }
 
-#[tactic(auto, unfolding(crate::specs::FoundText::labels_line))]
+#[tactic(auto, unfolding(crate::specs::FoundText::labels_line), using(esc_io::proofs::PuttingLemmas::putting))]
 fn put_labels<K: Sink>(labels: &[Sym], names: &Names, sink: &mut K) -> Result<(), Failed>
     ensures { Delivers K.written K.faults sink.old sink.new result
         (labels_line names.now labels.now) }
@@ -101,6 +101,7 @@ fn put_equal<K: Sink>(sign: &[u8], value: Frac, sink: &mut K) -> Result<(), Fail
     put_frac(value, sink)
 }
 
+#[tactic(auto, using(esc_io::proofs::PuttingLemmas::putting))]
 fn put_value<K: Sink>(value: Option<Frac>, sink: &mut K) -> Result<(), Failed>
     ensures { Delivers K.written K.faults sink.old sink.new result (value_text value) }
 {
@@ -159,6 +160,19 @@ fn put_classes_opening<K: Sink>(sink: &mut K) -> Result<(), Failed>
 }
 
 #[tactic(auto, using(esc_io::proofs::PuttingLemmas::putting))]
+fn put_all_classes<K: Sink>(
+    classes: &[Class],
+    names: &Names,
+    sink: &mut K,
+) -> Result<(), Failed>
+    ensures { Delivers K.written K.faults sink.old sink.new result
+        (classes_opening ++ class_lines names.now classes.now) }
+{
+    put_classes_opening(sink)?;
+    put_class_lines(classes, names, sink)
+}
+
+#[tactic(auto, using(esc_io::proofs::PuttingLemmas::putting))]
 fn put_classes<K: Sink>(
     classes: &[Class],
     show: Show,
@@ -168,11 +182,11 @@ fn put_classes<K: Sink>(
     ensures { Delivers K.written K.faults sink.old sink.new result
         (classes_text names.now show classes.now) }
 {
-    if !show.model {
-        return Ok(());
+    if show.model {
+        put_all_classes(classes, names, sink)
+    } else {
+        Ok(())
     }
-    put_classes_opening(sink)?;
-    put_class_lines(classes, names, sink)
 }
 
 // ---- all of it

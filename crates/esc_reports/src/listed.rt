@@ -92,12 +92,12 @@ pub fn put_terms<K: Sink>(terms: &[Term], names: &Names, sink: &mut K) -> Result
 // ---- names
 
 #[tactic(auto, using(esc_io::proofs::PuttingLemmas::putting))]
-fn put_next_name<K: Sink>(name: Sym, names: &Names, sink: &mut K) -> Result<(), Failed>
+fn put_next_name<K: Sink>(name: &Sym, names: &Names, sink: &mut K) -> Result<(), Failed>
     ensures { Delivers K.written K.faults sink.old sink.new result
-        (blank ++ name_text names.now name) }
+        (blank ++ name_text names.now name.now) }
 {
     put_blank(sink)?;
-    put_name(name, names, sink)
+    put_name(*name, names, sink)
 }
 
 fn put_next_names<K: Sink>(list: &[Sym], names: &Names, sink: &mut K) -> Result<(), Failed>
@@ -105,22 +105,22 @@ fn put_next_names<K: Sink>(list: &[Sym], names: &Names, sink: &mut K) -> Result<
         (spaced (name_text names.now) list.now) }
 {
     'list: for name in list {
-        put_next_name(*name, names, sink)?;
+        put_next_name(name, names, sink)?;
     }
     Ok(())
 }
 
 #[tactic(auto, using(esc_io::proofs::PuttingLemmas::putting))]
 fn put_first_name<K: Sink>(
-    first: Sym,
+    first: &Sym,
     rest: &[Sym],
     names: &Names,
     sink: &mut K,
 ) -> Result<(), Failed>
     ensures { Delivers K.written K.faults sink.old sink.new result
-        (name_text names.now first ++ spaced (name_text names.now) rest.now) }
+        (name_text names.now first.now ++ spaced (name_text names.now) rest.now) }
 {
-    put_name(first, names, sink)?;
+    put_name(*first, names, sink)?;
     put_next_names(rest, names, sink)
 }
 
@@ -129,7 +129,7 @@ fn put_joined_names<K: Sink>(list: &[Sym], names: &Names, sink: &mut K) -> Resul
         (joined (name_text names.now) list.now) }
 {
     match list.split_first() {
-        Some((first, rest)) => put_first_name(*first, rest, names, sink),
+        Some((first, rest)) => put_first_name(first, rest, names, sink),
         None => Ok(()),
     }
 }

@@ -6,8 +6,8 @@ ghost use Rattle.esc_print.specs.Formulas.{formula_text};
 ghost use Rattle.esc_print.specs.Terms.{blank, closing, term_text};
 ghost use Rattle.esc_reports.specs.Listed.{terms_text};
 ghost use Rattle.esc_reports.specs.LogText.{entries_text, entry, entry_text, fact_text};
-ghost use Rattle.esc_reports.specs.LogText.{log_opening, log_text, next_term_text};
-ghost use Rattle.esc_reports.specs.LogText.{numbered_text, placed_text, three_terms_text};
+ghost use Rattle.esc_reports.specs.LogText.{formula_end, log_opening, log_text, margin};
+ghost use Rattle.esc_reports.specs.LogText.{next_term_text, numbered_text, three_terms_text};
 
 use crate::listed::{put_blank, put_closing, put_next_term, put_terms};
 use esc_fact::Fact;
@@ -158,27 +158,24 @@ fn put_formula_between<K: Sink>(
     put_all(sink, behind)
 }
 
-// The place of a fact, and how it is drawn.
-#[tactic(auto, using(esc_io::proofs::PuttingLemmas::putting))]
-fn put_placed_fact<K: Sink>(
-    margin: &[u8],
-    place: u64,
-    fact: &Fact,
-    names: &Names,
-    sink: &mut K,
-) -> Result<(), Failed>
+#[tactic(auto, unfolding(crate::specs::LogText::formula_end))]
+fn put_formula_end<K: Sink>(formula: &Formula, names: &Names, sink: &mut K) -> Result<(), Failed>
     ensures { Delivers K.written K.faults sink.old sink.new result
-        (placed_text names.now margin.now place fact.now) }
+        (formula_end names.now formula.now) }
 {
-    put_all(sink, margin)?;
-    put_number(place, sink)?;
-    put_blank(sink)?;
-    put_fact(fact, names, sink)
+    put_formula_between(b": ", formula, b"\n", names, sink)
 }
 
-#[tactic(auto, unfolding(crate::specs::LogText::entry_text))]
+#[tactic(auto, unfolding(crate::specs::LogText::margin))]
+fn put_margin<K: Sink>(sink: &mut K) -> Result<(), Failed>
+    ensures { Delivers K.written K.faults sink.old sink.new result margin }
+{
+    put_all(sink, b"  ")
+}
+
+#[tactic(auto, unfolding(crate::specs::LogText::entry_text), using(esc_io::proofs::PuttingLemmas::putting))]
 fn put_entry<K: Sink>(
-    place: u64,
+    place: usize,
     fact: &Fact,
     formula: &Formula,
     names: &Names,
@@ -187,8 +184,11 @@ fn put_entry<K: Sink>(
     ensures { Delivers K.written K.faults sink.old sink.new result
         (entry_text names.now (entry place fact.now formula.now)) }
 {
-    put_placed_fact(b"  ", place, fact, names, sink)?;
-    put_formula_between(b": ", formula, b"\n", names, sink)
+    put_margin(sink)?;
+    put_number(place as u64, sink)?;
+    put_blank(sink)?;
+    put_fact(fact, names, sink)?;
+    put_formula_end(formula, names, sink)
 }
 
 fn put_entries<K: Sink>(
@@ -202,8 +202,7 @@ fn put_entries<K: Sink>(
         (entries_text names.now facts.now formulas.now) }
 {
     'facts: for (place, fact) in facts.iter().enumerate() {
-        let formula = &formulas[place];
-        put_entry(place as u64, fact, formula, names, sink)?;
+        put_entry(place, fact, &formulas[place], names, sink)?;
     }
     Ok(())
 }

@@ -3,9 +3,10 @@
 ghost use Rattle.std.specs.Prelude.{◌≡◌, ◌++◌, length};
 ghost use Rattle.esc_io.specs.Putting.{Delivers};
 ghost use Rattle.esc_reports.specs.FoundText.{found_text};
-ghost use Rattle.esc_reports.specs.Text.{HasEachFormula, cause_text, facts_text, form_text};
-ghost use Rattle.esc_reports.specs.Text.{invalid_line, memory_text, place_line, refusal_text};
-ghost use Rattle.esc_reports.specs.Text.{report_text, unknown_text, valid_line, why_line};
+ghost use Rattle.esc_reports.specs.Text.{HasEachFormula, cause_line, cause_text, facts_text};
+ghost use Rattle.esc_reports.specs.Text.{form_text, invalid_line, memory_text, place_line};
+ghost use Rattle.esc_reports.specs.Text.{refusal_text, report_text, unknown_text, valid_line};
+ghost use Rattle.esc_reports.specs.Text.{why_line};
 
 use crate::found::put_found;
 use crate::lines::{put_goal_line, put_place_line, put_three};
@@ -28,6 +29,7 @@ fn put_valid_line<K: Sink>(goal: u64, sink: &mut K) -> Result<(), Failed>
     put_goal_line(goal, b": Valid.\n", sink)
 }
 
+#[tactic(auto, using(esc_io::proofs::PuttingLemmas::putting))]
 fn put_facts<K: Sink>(
     log: &[Fact],
     formulas: &[Formula],
@@ -97,12 +99,19 @@ fn cause_text(cause: &Cause) -> &'static [u8]
     }
 }
 
+#[tactic(auto, unfolding(crate::specs::Text::cause_line))]
+fn put_cause_line<K: Sink>(cause: &Cause, sink: &mut K) -> Result<(), Failed>
+    ensures { Delivers K.written K.faults sink.old sink.new result (cause_line cause.now) }
+{
+    put_three(b": Unknown (", cause_text(cause), b").\n", sink)
+}
+
 #[tactic(auto, using(esc_io::proofs::PuttingLemmas::putting))]
 fn put_unknown<K: Sink>(goal: u64, cause: &Cause, sink: &mut K) -> Result<(), Failed>
     ensures { Delivers K.written K.faults sink.old sink.new result (unknown_text goal cause.now) }
 {
     put_number(goal, sink)?;
-    put_three(b": Unknown (", cause_text(cause), b").\n", sink)
+    put_cause_line(cause, sink)
 }
 
 // ---- commands that are refused, and want of memory
@@ -166,7 +175,7 @@ fn put_memory<K: Sink>(goal: Option<u64>, place: u64, sink: &mut K) -> Result<()
 
 /// Writes the text of a report, or a front of it where the sink fails. It takes no memory beyond
 /// the sink's own.
-#[tactic(auto, unfolding(crate::specs::Text::report_text))]
+#[tactic(auto, unfolding(crate::specs::Text::report_text), using(esc_io::proofs::PuttingLemmas::putting))]
 pub fn put_report<K: Sink>(
     report: &Report,
     names: &Names,
