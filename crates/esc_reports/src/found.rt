@@ -17,7 +17,7 @@ use esc_io::{Failed, Sink, put_all};
 use esc_names::Names;
 use esc_outcome::{Class, Counterexample, Show};
 use esc_print::{put_frac, put_literal};
-use esc_term::{Item, Sym};
+use esc_term::{Item, Sym, Term};
 
 // ---- labels
 
@@ -111,22 +111,22 @@ fn put_value<K: Sink>(value: Option<Frac>, sink: &mut K) -> Result<(), Failed>
     }
 }
 
-// A class between two texts.
+// Terms in parentheses with a value, between two texts.
 #[tactic(auto, using(esc_io::proofs::PuttingLemmas::putting))]
 fn put_class_between<K: Sink>(
     before: &[u8],
-    class: &Class,
+    terms: &[Term],
+    value: Option<Frac>,
     behind: &[u8],
     names: &Names,
     sink: &mut K,
 ) -> Result<(), Failed>
     ensures { Delivers K.written K.faults sink.old sink.new result
-        (before.now ++ (terms_text names.now class.now.terms
-        ++ (value_text class.now.value ++ behind.now))) }
+        (before.now ++ (terms_text names.now terms.now ++ (value_text value ++ behind.now))) }
 {
     put_all(sink, before)?;
-    put_terms(class.terms.as_slice(), names, sink)?;
-    put_value(class.value, sink)?;
+    put_terms(terms, names, sink)?;
+    put_value(value, sink)?;
     put_all(sink, behind)
 }
 
@@ -135,7 +135,8 @@ fn put_class_line<K: Sink>(class: &Class, names: &Names, sink: &mut K) -> Result
     ensures { Delivers K.written K.faults sink.old sink.new result
         (class_line names.now class.now) }
 {
-    put_class_between(b"    ", class, b"\n", names, sink)
+    let terms = class.terms.as_slice();
+    put_class_between(b"    ", terms, class.value, b"\n", names, sink)
 }
 
 fn put_class_lines<K: Sink>(
@@ -214,8 +215,25 @@ fn put_context<K: Sink>(literals: &[Item], names: &Names, sink: &mut K) -> Resul
     put_literal_lines(literals, names, sink)
 }
 
+fn put_parts<K: Sink>(
+    labels: &[Sym],
+    literals: &[Item],
+    classes: &[Class],
+    show: Show,
+    names: &Names,
+    sink: &mut K,
+) -> Result<(), Failed>
+    ensures { Delivers K.written K.faults sink.old sink.new result
+        (found_opening ++ (labels_line names.now labels.now
+        ++ (context_text names.now literals.now ++ classes_text names.now show classes.now))) }
+{
+    put_found_opening(sink)?;
+    put_labels(labels, names, sink)?;
+    put_context(literals, names, sink)?;
+    put_classes(classes, show, names, sink)
+}
+
 /// Puts a counterexample: its labels, its literals, and its classes where they are asked for.
-#[tactic(auto, using(esc_io::proofs::PuttingLemmas::putting))]
 pub fn put_found<K: Sink>(
     found: &Counterexample,
     show: Show,
@@ -225,8 +243,7 @@ pub fn put_found<K: Sink>(
     ensures { Delivers K.written K.faults sink.old sink.new result
         (found_text names.now show found.now) }
 {
-    put_found_opening(sink)?;
-    put_labels(found.labels.as_slice(), names, sink)?;
-    put_context(found.literals.as_slice(), names, sink)?;
-    put_classes(found.classes.as_slice(), show, names, sink)
+    let labels = found.labels.as_slice();
+    let literals = found.literals.as_slice();
+    put_parts(labels, literals, found.classes.as_slice(), show, names, sink)
 }
