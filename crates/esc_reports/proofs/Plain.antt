@@ -63,7 +63,7 @@ flat_none f (x ∷ xs) each =
 
 -- ---- terms
 
-top_form : Term-F Term → Bool
+abbrev top_form : Term-F Term → Bool
 top_form (Term-F.Num n) = true
 top_form (Term-F.Var k) = true
 top_form (Term-F.App head args) = is_plain_head head (length args)

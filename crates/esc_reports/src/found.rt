@@ -76,11 +76,7 @@ fn put_literal_line<K: Sink>(literal: &Item, names: &Names, sink: &mut K) -> Res
     put_literal_between(b"    ", literal, b"\n", names, sink)
 }
 
-fn put_literal_lines<K: Sink>(
-    literals: &[Item],
-    names: &Names,
-    sink: &mut K,
-) -> Result<(), Failed>
+fn put_literal_lines<K: Sink>(literals: &[Item], names: &Names, sink: &mut K) -> Result<(), Failed>
     ensures { Delivers K.written K.faults sink.old sink.new result
         (literal_lines names.now literals.now) }
 {
@@ -139,11 +135,7 @@ fn put_class_line<K: Sink>(class: &Class, names: &Names, sink: &mut K) -> Result
     put_class_between(b"    ", terms, class.value, b"\n", names, sink)
 }
 
-fn put_class_lines<K: Sink>(
-    classes: &[Class],
-    names: &Names,
-    sink: &mut K,
-) -> Result<(), Failed>
+fn put_class_lines<K: Sink>(classes: &[Class], names: &Names, sink: &mut K) -> Result<(), Failed>
     ensures { Delivers K.written K.faults sink.old sink.new result
         (class_lines names.now classes.now) }
 {
@@ -161,11 +153,7 @@ fn put_classes_opening<K: Sink>(sink: &mut K) -> Result<(), Failed>
 }
 
 #[tactic(auto, using(esc_io::proofs::PuttingLemmas::putting))]
-fn put_all_classes<K: Sink>(
-    classes: &[Class],
-    names: &Names,
-    sink: &mut K,
-) -> Result<(), Failed>
+fn put_all_classes<K: Sink>(classes: &[Class], names: &Names, sink: &mut K) -> Result<(), Failed>
     ensures { Delivers K.written K.faults sink.old sink.new result
         (classes_opening ++ class_lines names.now classes.now) }
 {
@@ -245,5 +233,12 @@ pub fn put_found<K: Sink>(
 {
     let labels = found.labels.as_slice();
     let literals = found.literals.as_slice();
-    put_parts(labels, literals, found.classes.as_slice(), show, names, sink)
+    put_parts(
+        labels,
+        literals,
+        found.classes.as_slice(),
+        show,
+        names,
+        sink,
+    )
 }

@@ -148,12 +148,7 @@ fn put_why_line<K: Sink>(why: Refusal, sink: &mut K) -> Result<(), Failed>
 }
 
 #[tactic(auto, using(esc_io::proofs::PuttingLemmas::putting))]
-fn put_refused<K: Sink>(
-    words: &[u8],
-    place: u64,
-    why: Refusal,
-    sink: &mut K,
-) -> Result<(), Failed>
+fn put_refused<K: Sink>(words: &[u8], place: u64, why: Refusal, sink: &mut K) -> Result<(), Failed>
     ensures { Delivers K.written K.faults sink.old sink.new result
         (place_line words.now place (why_line why)) }
 {
@@ -191,7 +186,14 @@ pub fn put_report<K: Sink>(
             goal,
             log,
             formulas,
-        } => put_valid(*goal, log.as_slice(), formulas.as_slice(), show, names, sink),
+        } => put_valid(
+            *goal,
+            log.as_slice(),
+            formulas.as_slice(),
+            show,
+            names,
+            sink,
+        ),
         Report::Invalid { goal, found } => put_invalid(*goal, found, show, names, sink),
         Report::Unknown { goal, cause } => put_unknown(*goal, cause, sink),
         Report::Refused { place, why } => put_refused(b"Refused at byte ", *place, *why, sink),

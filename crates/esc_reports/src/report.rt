@@ -23,14 +23,26 @@ pub enum Report {
         log: Facts,
         formulas: Formulas,
     },
-    Invalid { goal: u64, found: Counterexample },
+    Invalid {
+        goal: u64,
+        found: Counterexample,
+    },
     /// The search stopped.
-    Unknown { goal: u64, cause: Cause },
+    Unknown {
+        goal: u64,
+        cause: Cause,
+    },
     /// The place is that of the first byte of what is wrong, or of the command where its form is
     /// not answered yet.
-    Refused { place: u64, why: Refusal },
+    Refused {
+        place: u64,
+        why: Refusal,
+    },
     /// Want of memory. The goal is told where the command was read as one.
-    Memory { goal: Option<u64>, place: u64 },
+    Memory {
+        goal: Option<u64>,
+        place: u64,
+    },
     /// The command is carried out, and nothing is to be said.
     Done,
 }

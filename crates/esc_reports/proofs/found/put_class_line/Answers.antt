@@ -12,4 +12,4 @@ returns g c =
     c.put_class_between.new.sink c.put_class_between.result
     (codes "    " ++ (terms_text c.args.names.now terms
     ++ (value_text c.args.class.now.value ++ codes "\n"))))
-    c.as_slice.ensures c.put_class_between.ensures
+    c.as_slice-terms.ensures c.put_class_between.ensures

@@ -3,18 +3,21 @@ use Rattle.esc_reports.proofs.log.put_three_terms.Goals as goal
 
 pub returns-in_err-put_all : goal.returns-in_err-put_all
 returns-in_err-put_all g c =
-    Delivers-fails c.from_residual.result _ c.from_residual.ensures.0 c.in_err-put_all.ensures
+    let end = c.from_residual in
+    Delivers-fails end.result _ end.ensures.0 c.in_err-put_all.ensures
 
 pub returns-in_err-put_term : goal.returns-in_err-put_term
 returns-in_err-put_term g c =
+    let end = c.from_residual-in_err-put_term in
     Delivers-then c.in_ok-put_all.ensures
-    (Delivers-fails c.from_residual-in_err-put_term.result _ c.from_residual-in_err-put_term.ensures.0 c.in_err-put_term.ensures)
+    (Delivers-fails end.result _ end.ensures.0 c.in_err-put_term.ensures)
 
 pub returns-in_err-put_next_term : goal.returns-in_err-put_next_term
 returns-in_err-put_next_term g c =
+    let end = c.from_residual-in_err-put_next_term in
     Delivers-then c.in_ok-put_all.ensures
     (Delivers-then c.in_ok-put_term.ensures
-    (Delivers-fails c.from_residual-in_err-put_next_term.result _ c.from_residual-in_err-put_next_term.ensures.0 c.in_err-put_next_term.ensures))
+    (Delivers-fails end.result _ end.ensures.0 c.in_err-put_next_term.ensures))
 
 pub returns : goal.returns
 returns g c =
