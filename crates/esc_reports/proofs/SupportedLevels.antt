@@ -98,12 +98,14 @@ unfolding is_supported roll-Formula roll
 is_supported-Distinct ts = fold-roll-Formula Bool Unit supported_step (λ quant. tt)
     (Formula-F.Distinct ts)
 
-pub is_supported-LabelPos : (name : Sym) (f : Formula) → is_supported (LabelPos name f) ≡ is_supported f
+pub is_supported-LabelPos : (name : Sym) (f : Formula)
+    → is_supported (LabelPos name f) ≡ is_supported f
 unfolding is_supported roll-Formula roll
 is_supported-LabelPos name f = fold-roll-Formula Bool Unit supported_step (λ quant. tt)
     (Formula-F.LabelPos name f)
 
-pub is_supported-LabelNeg : (name : Sym) (f : Formula) → is_supported (LabelNeg name f) ≡ is_supported f
+pub is_supported-LabelNeg : (name : Sym) (f : Formula)
+    → is_supported (LabelNeg name f) ≡ is_supported f
 unfolding is_supported roll-Formula roll
 is_supported-LabelNeg name f = fold-roll-Formula Bool Unit supported_step (λ quant. tt)
     (Formula-F.LabelNeg name f)

@@ -63,7 +63,8 @@ formula_end names f = codes ": " ++ (formula_text names f ++ codes "\n")
 
 unfoldable pub entry_text : List (List ℕ) → Entry → List ℕ
 entry_text names e =
-    margin ++ (decimal e.place ++ (blank ++ (fact_text names e.fact ++ formula_end names e.formula)))
+    margin ++ (decimal e.place ++ (blank ++ (fact_text names e.fact
+    ++ formula_end names e.formula)))
 
 -- each fact on a line of its own, at its place from 0
 abbrev pub entries_text : List (List ℕ) → List Fact → List Formula → List ℕ

@@ -5,9 +5,9 @@ ghost use Rattle.esc_io.specs.Putting.{Delivers};
 ghost use Rattle.esc_print.specs.Formulas.{literal_text};
 ghost use Rattle.esc_print.specs.Fractions.{frac_text};
 ghost use Rattle.esc_print.specs.Names.{name_text};
-ghost use Rattle.esc_reports.specs.FoundText.{class_line, class_lines, classes_opening, classes_text};
-ghost use Rattle.esc_reports.specs.FoundText.{context_opening, context_text, found_opening};
-ghost use Rattle.esc_reports.specs.FoundText.{found_text, labels_line, literal_line};
+ghost use Rattle.esc_reports.specs.FoundText.{class_line, class_lines, classes_opening};
+ghost use Rattle.esc_reports.specs.FoundText.{classes_text, context_opening, context_text};
+ghost use Rattle.esc_reports.specs.FoundText.{found_opening, found_text, labels_line, literal_line};
 ghost use Rattle.esc_reports.specs.FoundText.{literal_lines, value_text};
 ghost use Rattle.esc_reports.specs.Listed.{listed, terms_text};
 

@@ -173,7 +173,6 @@ fn put_margin<K: Sink>(sink: &mut K) -> Result<(), Failed>
     put_all(sink, b"  ")
 }
 
-#[tactic(auto, unfolding(crate::specs::LogText::entry_text), using(esc_io::proofs::PuttingLemmas::putting))]
 fn put_entry<K: Sink>(
     place: usize,
     fact: &Fact,
