@@ -1,5 +1,5 @@
 -- What is told of a goal is so.
-use Rattle.std.proofs.Common.{◌≡◌, ◌<◌, ◌^◌, ℕ, ◌+◌, Bool, true, Some, None, subst, arith}
+use Rattle.std.proofs.Common.{◌≡◌, ◌<◌, ◌^◌, ℕ, ◌+◌, Bool, true, subst, arith}
 use Rattle.std.specs.Prelude.{IsTrue}
 use Rattle.esc_term.specs.declared.formula.Formula.{Formula}
 use Rattle.esc_fact.specs.Base.{formulas_in}
