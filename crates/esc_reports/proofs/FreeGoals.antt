@@ -1,15 +1,13 @@
 -- Goals without arithmetic have a base without it.
-use Rattle.std.proofs.Common.{◌≡◌, ◌&&◌, true, not, ℤ, List, [], ◌∷◌, ◌++◌, refl, sym, subst, ap}
+use Rattle.std.proofs.Common.{◌≡◌, ◌&&◌, true, not, List, [], ◌∷◌, ◌++◌, refl, subst, ap}
 use Rattle.std.proofs.Common.{ap₂, ◌∙◌}
 use Rattle.std.specs.List.{Contains, filter, list_all}
 use Rattle.esc_term.specs.declared.term.Term.{Term, out-Term}
 use Rattle.esc_term.specs.declared.term.Term.TheVariants.{Num}
 use Rattle.esc_term.specs.declared.formula.Formula.{Formula, out-Formula}
 use Rattle.esc_term.specs.declared.formula.Formula.TheVariants.{Not}
-use Rattle.esc_term.specs.Formula.{terms_of}
 use Rattle.esc_term.specs.Term.{firsts, is_ground, truth_term}
 use Rattle.esc_term.proofs.GroundTerms.{terms_of-Not}
-use Rattle.esc_cover.specs.Atoms.{atoms_of}
 use Rattle.esc_cover.specs.Classes.{active_terms}
 use Rattle.esc_cover.specs.Laws.{is_free_form, is_free_of_arithmetic, is_order_form}
 use Rattle.esc_cover.proofs.AtomsLevels.{atoms_of-Not}

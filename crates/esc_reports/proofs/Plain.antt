@@ -13,7 +13,7 @@ use Rattle.esc_term.specs.declared.term.Term.TheViews.{roll-Term, out-roll-Term}
 use Rattle.esc_term.specs.declared.term.Term.TheFolds.{ind-Term, map-Term}
 use Rattle.esc_term.specs.declared.formula.Formula.{Formula}
 use Rattle.esc_term.specs.declared.formula.Formula.TheVariants.{True, False, And, Or, Not, Implies}
-use Rattle.esc_term.specs.declared.formula.Formula.TheVariants.{Iff, Eq, Less, Distinct, LabelPos}
+use Rattle.esc_term.specs.declared.formula.Formula.TheVariants.{Iff, Eq, Less, LabelPos}
 use Rattle.esc_term.specs.declared.formula.Formula.TheVariants.{LabelNeg}
 use Rattle.esc_term.specs.declared.formula.Formula.TheOpen.{Formula-F}
 use Rattle.esc_term.specs.declared.formula.Formula.TheViews.{roll-Formula}
@@ -29,12 +29,11 @@ use Rattle.esc_term.proofs.Members.{Contains-none, Contains-here, Contains-later
 use Rattle.esc_term.proofs.Members.{Contains-flat_map}
 use Rattle.esc_term.proofs.TermLevels.{subterms-Num, subterms-Var, subterms-App}
 use Rattle.esc_cover.proofs.TestLemmas.{all_at, and_left, and_right, not_both}
-use Rattle.esc_fact.specs.Base.{quantified_in, quantified_under}
+use Rattle.esc_fact.specs.Base.{quantified_under}
 use Rattle.esc_fact.specs.Fact.{store}
 use Rattle.esc_fact.proofs.Quantifiers.{under-True, under-False, under-And, under-Or, under-Not}
 use Rattle.esc_fact.proofs.Quantifiers.{under-Implies, under-Iff, under-Eq, under-Less}
 use Rattle.esc_fact.proofs.Quantifiers.{under-Distinct, under-LabelPos, under-LabelNeg}
-use Rattle.esc_reports.specs.Goals.{base_of}
 use Rattle.esc_reports.specs.Laws.{SupportedIsPlain}
 use Rattle.esc_reports.specs.Supported.{is_plain_head, is_plain_term, is_supported}
 use Rattle.esc_reports.proofs.SupportedLevels.{is_plain_term-App}

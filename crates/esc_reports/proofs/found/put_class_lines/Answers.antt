@@ -1,4 +1,4 @@
-use Rattle.std.proofs.Common.{◌++◌, sym}
+use Rattle.std.proofs.Common.{sym}
 use Rattle.esc_reports.specs.FoundText.{class_line}
 use Rattle.esc_reports.proofs.Eaches.{each_done, each_failed, each_start, each_step}
 use Rattle.esc_reports.proofs.found.put_class_lines.Goals as goal
