@@ -100,7 +100,7 @@ module _ (fs : List Formula) (s : Sharing Simplex) (literals : List Item)
       (told_in (shared_in s)) (λ pair h.
       let found = Contains-of_map (λ (p : ℕ × ℕ). (node_term s.graph p.0, node_term s.graph p.1))
       s.told pair h in
-      let is = All-contains (AreToldIn s.graph (numbers_in v)) s.told found.0 at.told found.1 in
+      let is = All-contains (AreToldIn s.graph (numbers_in v)) s.told found.0 at.underway.told found.1 in
       subst (λ (q : Term × Term). IsNumberOf fs q.0 × IsNumberOf fs q.1) found.2 (
         node_given found.0.0 is.first,
         node_given found.0.1 is.second,
@@ -108,7 +108,7 @@ module _ (fs : List Formula) (s : Sharing Simplex) (literals : List Item)
     where
       node_given : (a : ℕ) → IsNumber (numbers_in v) a → IsNumberOf fs (node_term s.graph a)
       node_given a h =
-          number_given (node_term s.graph a) (number_of_node (shared_in s) at.numbers a h).1
+          number_given (node_term s.graph a) (number_of_node (shared_in s) at.underway.numbers a h).1
 
   -- ---- rows
 

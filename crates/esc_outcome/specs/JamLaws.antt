@@ -14,9 +14,9 @@ use Rattle.esc_simplex.specs.View.{Allows, IsSimplex, numbers_in, senses_in}
 use Rattle.esc_simplex.specs.declared.simplex.Simplex.{Simplex}
 use Rattle.esc_simplex.specs.declared.stop.Stop.{Stop}
 use Rattle.esc_simplex.specs.declared.stop.Stop.TheVariants as stop
-use Rattle.esc_sharing.specs.Numbers.{AddsMade, AreNumbersOf, IsGapOf, number_terms}
-use Rattle.esc_sharing.specs.Shared.{AreEqualInModels, AreToldIn, IsUnderway, Shared, items_in}
-use Rattle.esc_sharing.specs.Shared.{seen, told_in}
+use Rattle.esc_sharing.specs.Numbers.{AddsMade, IsGapOf, number_terms}
+use Rattle.esc_sharing.specs.Shared.{AreEqualInModels, IsUnderway, Shared, items_in, seen}
+use Rattle.esc_sharing.specs.Shared.{told_in}
 use Rattle.esc_sharing.specs.Stops.{UnlessMemory}
 use Rattle.esc_sharing.specs.declared.sharing.Sharing.{Sharing}
 use Rattle.esc_outcome.specs.Causes.{AllFollow}
@@ -69,8 +69,6 @@ pub record StopsAt (formulas : List Formula) (s : Sharing Simplex) (literals : L
     (terms others : List Term) (why : Stop) : Type 0 where
   pub sound : IsSimplex s.theory
   pub underway : IsUnderway (shared_in s)
-  pub numbers : AreNumbersOf s.graph (numbers_in s.theory)
-  pub told : All (AreToldIn s.graph (numbers_in s.theory)) s.told
   pub given : IsGivenBy formulas s.theory
   pub literals_are : AreLiteralsOf formulas literals
   pub more : List Gap

@@ -8,5 +8,6 @@ pub mod Jam
 pub mod JamLaws
 pub mod Labels
 pub mod PlainLaws
+pub mod Stopping
 pub mod Tree
 pub mod TreeLaws

@@ -16,7 +16,7 @@ use Rattle.esc_linear.specs.Forms.{form}
 use Rattle.esc_egraph.specs.Graph.{Graph}
 use Rattle.esc_simplex.specs.Senses.{Sense, gap_of, term}
 use Rattle.esc_simplex.specs.declared.stop.Stop.{Stop}
-use Rattle.esc_sharing.specs.AddingInside.{terms_at}
+use Rattle.esc_sharing.specs.Calls.{terms_at}
 use Rattle.esc_sharing.specs.Admitted.{AdmitsWith}
 use Rattle.esc_sharing.specs.Calls.{AddsNumbers}
 use Rattle.esc_sharing.specs.Nodes.{node_count, node_term}

@@ -1,10 +1,10 @@
 -- The nodes that a term makes arithmetic.
 use Rattle.std.proofs.Common.{◌≡◌, ℕ, ◌<◌, Bool, true, false, ◌⊎◌, inl, inr, List, [], ◌∷◌, ◌++◌}
-use Rattle.std.proofs.Common.{length, if◌then◌else◌, refl, ap, sym, subst, ◌∙◌, true≢false}
+use Rattle.std.proofs.Common.{append_assoc, length, if◌then◌else◌, refl, ap, sym, subst, ◌∙◌, true≢false}
 use Rattle.std.specs.List.{Contains, filter, flat_map}
 use Rattle.std.specs.List.Sorted.{IsPermutation}
-use Rattle.std.proofs.lemmas.List.Elements.{Contains-append_cases, Contains-append_left}
-use Rattle.std.proofs.lemmas.List.Elements.{Contains-append_right}
+use Rattle.std.proofs.lemmas.List.Elements.{All-contains, Contains-append_cases}
+use Rattle.std.proofs.lemmas.List.Elements.{Contains-append_left, Contains-append_right}
 use Rattle.std.proofs.lemmas.List.Sorted.{All-permutation, Contains-permutation}
 use Rattle.std.proofs.lemmas.List.Sorted.{IsPermutation-sym}
 use Rattle.esc_term.specs.declared.term.Term.{Term}
@@ -15,7 +15,8 @@ use Rattle.esc_term.proofs.Members.{Contains-in_flat_map, Contains-later, Contai
 use Rattle.esc_cover.specs.Arithmetic.{is_number, operands, operands_form}
 use Rattle.esc_egraph.specs.Graph.{Graph}
 use Rattle.esc_branch.specs.StartingInside.{AreNodesOf}
-use Rattle.esc_sharing.specs.AddingInside.{AreNodesFor, Gathers, named, terms_at}
+use Rattle.esc_sharing.specs.AddingInside.{Gathers, named}
+use Rattle.esc_sharing.specs.Calls.{AreNodesFor, GathersFor, terms_at}
 use Rattle.esc_sharing.specs.Calls.{IsNodeOf, becoming}
 use Rattle.esc_sharing.specs.Nodes.{node_term}
 use Rattle.esc_sharing.proofs.Gathered.{nodes_both, nodes_none, nodes_one}
@@ -112,37 +113,64 @@ module _ (xs rest : List Term) (s : Term) where
 
 -- ---- their nodes
 
-module _ (g : Graph) (t : Term) (side : Bool) (node : ℕ) (numbers pushed moved : List ℕ)
-    (gathered : Gathers g.nodes [] numbers (flat_map named (subterms t)))
-    (is : IsNodeOf g t node) (push : pushed ≡ numbers ++ (if side then node ∷ [] else []))
-    (permuted : IsPermutation pushed moved) where
+module _ (g : Graph) (t : Term) (side : Bool) (node : ℕ) (before numbers pushed : List ℕ)
+    (gathered : Gathers g.nodes before numbers (flat_map named (subterms t)))
+    (is : IsNodeOf g t node) (push : pushed ≡ numbers ++ (if side then node ∷ [] else [])) where
   abbrev all_terms : List Term
   all_terms = flat_map named (subterms t) ++ (if side then t ∷ [] else [])
+
+  abbrev more : List ℕ
+  more = gathered.more ++ (if side then node ∷ [] else [])
 
   side_is : (b : Bool) → AreNodesOf g.nodes (if b then node ∷ [] else []) (if b then t ∷ [] else [])
   side_is true = nodes_one g.nodes node t is.there is.is
   side_is false = nodes_none g.nodes
 
-  are : AreNodesOf g.nodes pushed all_terms
-  are = subst (λ ns. AreNodesOf g.nodes ns all_terms)
-      (sym (push ∙ ap (λ ns. ns ++ (if side then node ∷ [] else [])) gathered.gathered))
-      (nodes_both g.nodes gathered.more (if side then node ∷ [] else [])
-      (flat_map named (subterms t)) (if side then t ∷ [] else []) gathered.are (side_is side))
+  are : AreNodesOf g.nodes more all_terms
+  are = nodes_both g.nodes gathered.more (if side then node ∷ [] else [])
+      (flat_map named (subterms t)) (if side then t ∷ [] else []) gathered.are (side_is side)
 
-  pub nodes_for : AreNodesFor g moved (becoming t side)
-  nodes_for = record {
-    there = All-permutation (λ a. a < length g.nodes) pushed moved permuted are.there;
-    among = All-each (Contains (becoming t side)) (terms_at g moved) (λ s h.
-        let at = Contains-of_map (node_term g) moved s h in
-        named_becomes (subterms t) (if side then t ∷ [] else []) s
-        (subst (λ ts. Contains ts s) are.terms
-        (subst (Contains (terms_at g pushed)) at.2
-        (Contains-map (node_term g) pushed at.0
-        (Contains-permutation moved pushed at.0 (IsPermutation-sym pushed moved permuted) at.1)))));
-    each = All-each (Contains (terms_at g moved)) (becoming t side) (λ s h.
-        let at = Contains-of_map (node_term g) pushed s (subst (λ ts. Contains ts s)
-        (sym are.terms) (becoming_named (subterms t) (if side then t ∷ [] else []) s h)) in
-        subst (Contains (terms_at g moved)) at.2
-        (Contains-map (node_term g) moved at.0
-        (Contains-permutation pushed moved at.0 permuted at.1)));
+  pub gathers_for : GathersFor g before pushed (becoming t side)
+  gathers_for = record {
+    more = more;
+    gathered = push ∙ (ap (λ ns. ns ++ (if side then node ∷ [] else [])) gathered.gathered
+        ∙ append_assoc before gathered.more (if side then node ∷ [] else []));
+    are = record {
+      there = are.there;
+      among = All-each (Contains (becoming t side)) (terms_at g more) (λ s h.
+          named_becomes (subterms t) (if side then t ∷ [] else []) s
+          (subst (λ ts. Contains ts s) are.terms h));
+      each = All-each (Contains (terms_at g more)) (becoming t side) (λ s h.
+          subst (λ ts. Contains ts s) (sym are.terms)
+          (becoming_named (subterms t) (if side then t ∷ [] else []) s h));
+    };
   }
+
+-- in any order
+nodes_for-permuted : (g : Graph) (terms : List Term) (nodes moved : List ℕ)
+    → IsPermutation nodes moved → AreNodesFor g nodes terms → AreNodesFor g moved terms
+nodes_for-permuted g terms nodes moved permuted are = record {
+  there = All-permutation (λ a. a < length g.nodes) nodes moved permuted are.there;
+  among = All-each (Contains terms) (terms_at g moved) (λ s h.
+      let at = Contains-of_map (node_term g) moved s h in
+      All-contains (Contains terms) (terms_at g nodes) s are.among
+      (subst (Contains (terms_at g nodes)) at.2
+      (Contains-map (node_term g) nodes at.0
+      (Contains-permutation moved nodes at.0 (IsPermutation-sym nodes moved permuted) at.1))));
+  each = All-each (Contains (terms_at g moved)) terms (λ s h.
+      let at = Contains-of_map (node_term g) nodes s
+      (All-contains (Contains (terms_at g nodes)) terms s are.each h) in
+      subst (Contains (terms_at g moved)) at.2
+      (Contains-map (node_term g) moved at.0
+      (Contains-permutation nodes moved at.0 permuted at.1)));
+}
+
+-- what came behind no others, in any order
+pub nodes_for : (g : Graph) (terms : List Term) (none nodes moved given : List ℕ) → none ≡ []
+    → GathersFor g none nodes terms → IsPermutation nodes moved → given ≡ moved
+    → AreNodesFor g given terms
+nodes_for g terms none nodes moved given empty gathers permuted is =
+    subst (λ ns. AreNodesFor g ns terms) (sym is)
+    (nodes_for-permuted g terms nodes moved permuted
+    (subst (λ ns. AreNodesFor g ns terms)
+    (sym (gathers.gathered ∙ ap (λ ns. ns ++ gathers.more) empty)) gathers.are))

@@ -26,7 +26,8 @@ use Rattle.esc_distinct.specs.declared.record.GroupRec.{GroupRec}
 use Rattle.esc_sharing.specs.Calls.{Adds, AssertEnds}
 use Rattle.esc_sharing.specs.Literals.{group_item}
 use Rattle.esc_sharing.specs.Nodes.{node_count}
-use Rattle.esc_sharing.specs.SettlingInside.{IsUnsettled, JoinsDemanded, Keeps, StepEnds}
+use Rattle.esc_sharing.specs.SettlingInside.{IsUnsettled, JoinsDemanded, Keeps}
+use Rattle.esc_sharing.specs.Calls.{StepEnds}
 use Rattle.esc_sharing.specs.Shared.{HaveNoModel, IsShared, Shared, items_in, literals_in, seen}
 use Rattle.esc_sharing.specs.Numbers.{number_terms}
 use Rattle.esc_sharing.specs.SharingUndo.{part_carried}

@@ -18,7 +18,8 @@ use Rattle.esc_distinct.specs.declared.record.GroupRec.{GroupRec}
 use Rattle.esc_simplex.specs.Senses.{Sense}
 use Rattle.esc_sharing.specs.Admitted.{AreEqualBy, AreTwoNumbers}
 use Rattle.esc_sharing.specs.Nodes.{node_count, node_term}
-use Rattle.esc_sharing.specs.SettlingInside.{IsUnsettled, Keeps, StepEnds}
+use Rattle.esc_sharing.specs.SettlingInside.{IsUnsettled, Keeps}
+use Rattle.esc_sharing.specs.Calls.{StepEnds}
 use Rattle.esc_sharing.specs.Shared.{HaveNoModel, Shared, literals_in, seen}
 use Rattle.esc_sharing.specs.SharingUndo.{part_carried}
 use Rattle.esc_sharing.specs.declared.record.ShareRec.{ShareRec}

@@ -351,4 +351,6 @@ module _ (v : Shared) (is : IsShared v) (lit : Lit) (sides : AreSides v.graph v.
           (λ all. both_admit (take n gaps) with_some x all.0 all.1),
         ));
     follow = told_follow ordered_view (demanded v is lit sides) is.parts.numbers is.parts.told;
+    numbers = is.parts.numbers;
+    told = is.parts.told;
   }

@@ -22,7 +22,8 @@ use Rattle.esc_simplex.specs.declared.stop.Stop.TheVariants as stop
 use Rattle.esc_sharing.specs.Admitted.{RestrictEnds}
 use Rattle.esc_sharing.specs.AssertingInside.{IsAsserting, IsOrder}
 use Rattle.esc_sharing.specs.Literals.{AreSides, item_of}
-use Rattle.esc_sharing.specs.SettlingInside.{IsUnsettled, Keeps, StepEnds}
+use Rattle.esc_sharing.specs.SettlingInside.{IsUnsettled, Keeps}
+use Rattle.esc_sharing.specs.Calls.{StepEnds}
 use Rattle.esc_sharing.specs.Shared.{HaveNoModel, IsMetIn, IsShared, IsUnderway, Shared}
 use Rattle.esc_sharing.specs.Shared.{denied_pair, literals_in, seen}
 use Rattle.esc_sharing.specs.SharingUndo.{part_carried}

@@ -62,6 +62,8 @@ all_underway v Known is = record {
       (subst (λ gaps. v.admits x ↔ (NoneNegative x (flat_map asked (items_in v))
       × NoneNegative x gaps)) (sym (take-length (flat_map both_gaps (told_in v)))) (is.exact x));
   follow = told_follow v is.demanded is.parts.numbers is.parts.told;
+  numbers = is.parts.numbers;
+  told = is.parts.told;
 }
 
 -- ---- a pair is told
@@ -197,4 +199,6 @@ module _ (v : Shared) (Known : ℕ → ℕ → Type 0) (is : IsUnsettled v Known
           (λ all. both_admit (take n gaps) with_some x all.0 all.1),
         ));
     follow = told_follow telling_pair is.demanded is.parts.numbers told_push;
+    numbers = is.parts.numbers;
+    told = told_push;
   }

@@ -14,7 +14,8 @@ use Rattle.esc_simplex.specs.declared.stop.Stop.TheVariants as stop
 use Rattle.esc_sharing.specs.Admitted.{RestrictEnds, both_gaps}
 use Rattle.esc_sharing.specs.Nodes.{node_term}
 use Rattle.esc_sharing.specs.Numbers.{AddsMade, number_terms}
-use Rattle.esc_sharing.specs.SettlingInside.{IsUnsettled, Keeps, StepEnds}
+use Rattle.esc_sharing.specs.SettlingInside.{IsUnsettled, Keeps}
+use Rattle.esc_sharing.specs.Calls.{StepEnds}
 use Rattle.esc_sharing.specs.Shared.{AreToldIn, HaveNoModel, IsUnderway, Shared, literals_in, seen}
 use Rattle.esc_sharing.specs.SharingUndo.{part_carried}
 use Rattle.esc_sharing.specs.declared.record.ShareRec.{ShareRec}

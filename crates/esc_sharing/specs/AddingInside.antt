@@ -1,8 +1,7 @@
 -- How a term comes in play: nodes are made from the bottom of the term up, and those that become
 -- arithmetic are gathered on the way.
 use Rattle.std.specs.Prelude.{◌≡◌, ◌⊎◌, ℕ, ◌<◌, Bool, true, false, if◌then◌else◌, List, [], ◌∷◌}
-use Rattle.std.specs.Prelude.{◌++◌, length, map}
-use Rattle.std.specs.List.{All, Contains}
+use Rattle.std.specs.Prelude.{◌++◌, length}
 use Rattle.esc_term.specs.declared.term.Head.{Head}
 use Rattle.esc_term.specs.declared.term.Head.TheVariants.{Name, Skolem, Add, Sub, Mul}
 use Rattle.esc_term.specs.declared.term.Term.{Term}
@@ -13,11 +12,7 @@ use Rattle.esc_nodes.specs.Nodes.{Shape}
 use Rattle.esc_egraph.specs.Congruence.{IsLeast, IsMet, SameAmong}
 use Rattle.esc_egraph.specs.Graph.{Graph, IsGraph, number_of}
 use Rattle.esc_branch.specs.StartingInside.{AreNodesOf}
-use Rattle.esc_simplex.specs.Senses.{Sense}
-use Rattle.esc_sharing.specs.Calls.{TellsMore}
-use Rattle.esc_sharing.specs.Nodes.{node_term}
-use Rattle.esc_sharing.specs.Numbers.{AddsMade, IsNumber}
-use Rattle.esc_sharing.specs.declared.sharing.Sharing.{Sharing}
+use Rattle.esc_sharing.specs.Numbers.{IsNumber}
 
 -- ---- the graph
 
@@ -53,28 +48,6 @@ pub record Gathers (shapes : List Shape) (old new : List ℕ) (terms : List Term
   pub more : List ℕ
   pub gathered : new ≡ old ++ more
   pub are : AreNodesOf shapes more terms
-
--- ---- nodes that become arithmetic
-
--- the terms of nodes
-abbrev pub terms_at : Graph → List ℕ → List Term
-terms_at g nodes = map (node_term g) nodes
-
--- each has one of these terms, and each of these terms is that of one of them
-pub record AreNodesFor (g : Graph) (nodes : List ℕ) (terms : List Term) : Type 0 where
-  pub there : All (λ a. a < length g.nodes) nodes
-  pub among : All (Contains terms) (terms_at g nodes)
-  pub each : All (Contains (terms_at g nodes)) terms
-
--- terms became arithmetic, and pairs were told; nodes, literals and groups are as they were
-pub record KeepsTerms {T : Type 0} (is_sound : T → Type 0) (made_of : T → List Sense)
-    (terms : List Term) (v w : Sharing T) : Type 0 where
-  pub sound : is_sound w.theory
-  pub made : AddsMade (made_of v.theory) (made_of w.theory) terms
-  pub asserted : w.asserted ≡ v.asserted
-  pub groups : w.groups ≡ v.groups
-  pub told : TellsMore v.told w.told
-  pub nodes : w.graph.nodes ≡ v.graph.nodes
 
 -- ---- what the theory knows before
 

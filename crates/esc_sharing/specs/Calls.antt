@@ -1,6 +1,6 @@
 -- What the calls of a sharing leave and answer.
 use Rattle.std.specs.Prelude.{◌≡◌, ℕ, ◌<◌, Bool, if◌then◌else◌, List, [], ◌∷◌, ◌++◌}
-use Rattle.std.specs.Prelude.{Result, Ok, Err}
+use Rattle.std.specs.Prelude.{length, map, Result, Ok, Err}
 use Rattle.std.specs.List.{All, Contains, filter, fold}
 use Rattle.esc_term.specs.declared.term.Term.{Term}
 use Rattle.esc_term.specs.Term.{subterms, with_once}
@@ -9,12 +9,14 @@ use Rattle.esc_nodes.specs.Nodes.{Shape}
 use Rattle.esc_egraph.specs.Graph.{Graph}
 use Rattle.esc_egraph.specs.declared.state.State.{State}
 use Rattle.esc_egraph.specs.declared.state.State.TheVariants.{Open, Closed}
+use Rattle.esc_simplex.specs.Senses.{Sense}
 use Rattle.esc_simplex.specs.declared.stop.Stop.{Stop}
 use Rattle.esc_simplex.specs.declared.stop.Stop.TheVariants as stop
 use Rattle.esc_sharing.specs.Nodes.{node_count, node_term, terms_in}
-use Rattle.esc_sharing.specs.Numbers.{number_terms}
+use Rattle.esc_sharing.specs.Numbers.{AddsMade, number_terms}
 use Rattle.esc_sharing.specs.Shared.{HaveNoModel, IsShared, IsUnderway, Shared, literals_in}
 use Rattle.esc_sharing.specs.declared.literal.Lit.{Lit}
+use Rattle.esc_sharing.specs.declared.sharing.Sharing.{Sharing}
 
 -- pairs were told behind the others
 abbrev pub TellsMore : List (ℕ × ℕ) → List (ℕ × ℕ) → Type 0
@@ -80,3 +82,38 @@ AddEnds v w t side (Ok (node, Closed)) = PutsInPlay v w t × IsNodeOf w.graph t 
     × HaveNoModel (literals_in w)
 AddEnds v w t side (Err stop.Memory) = Unit {0}
 AddEnds v w t side (Err _) = PutsInPlay v w t × IsUnderway w
+
+-- ---- nodes that become arithmetic
+
+-- the terms of nodes
+abbrev pub terms_at : Graph → List ℕ → List Term
+terms_at g nodes = map (node_term g) nodes
+
+-- each has one of these terms, and each of these terms is that of one of them
+pub record AreNodesFor (g : Graph) (nodes : List ℕ) (terms : List Term) : Type 0 where
+  pub there : All (λ a. a < length g.nodes) nodes
+  pub among : All (Contains terms) (terms_at g nodes)
+  pub each : All (Contains (terms_at g nodes)) terms
+
+-- nodes for these terms came behind the others
+pub record GathersFor (g : Graph) (old new : List ℕ) (terms : List Term) : Type 0 where
+  pub more : List ℕ
+  pub gathered : new ≡ old ++ more
+  pub are : AreNodesFor g more terms
+
+-- terms became arithmetic, and pairs were told; nodes, literals and groups are as they were
+pub record KeepsTerms {T : Type 0} (is_sound : T → Type 0) (made_of : T → List Sense)
+    (terms : List Term) (v w : Sharing T) : Type 0 where
+  pub sound : is_sound w.theory
+  pub made : AddsMade (made_of v.theory) (made_of w.theory) terms
+  pub asserted : w.asserted ≡ v.asserted
+  pub groups : w.groups ≡ v.groups
+  pub told : TellsMore v.told w.told
+  pub nodes : w.graph.nodes ≡ v.graph.nodes
+
+-- Open where this is done, and Closed where no model makes all literals hold
+abbrev pub StepEnds : Shared → Type 0 → Result State Stop → Type 0
+StepEnds w Done (Ok Open) = Done
+StepEnds w Done (Ok Closed) = HaveNoModel (literals_in w)
+StepEnds w Done (Err stop.Memory) = Unit {0}
+StepEnds w Done (Err _) = IsUnderway w

@@ -1,6 +1,5 @@
 -- What holds while graph and theory tell each other equalities, and what each step leaves.
-use Rattle.std.specs.Prelude.{◌≡◌, ℕ, ◌<◌, Bool, IsTrue, List, ◌++◌, length, Result, Ok}
-use Rattle.std.specs.Prelude.{Err}
+use Rattle.std.specs.Prelude.{◌≡◌, ℕ, ◌<◌, Bool, IsTrue, List, ◌++◌, length}
 use Rattle.std.specs.List.{All, Contains}
 use Rattle.std.specs.List.Sorted.{IsNonDecreasingBy}
 use Rattle.esc_term.specs.declared.term.Term.{Term}
@@ -12,18 +11,13 @@ use Rattle.esc_union.specs.Merges.{SameClass}
 use Rattle.esc_nodes.specs.Nodes.{Shape}
 use Rattle.esc_nodes.specs.Terms.{term_of, terms_of}
 use Rattle.esc_egraph.specs.Graph.{Graph, number_of}
-use Rattle.esc_egraph.specs.declared.state.State.{State}
-use Rattle.esc_egraph.specs.declared.state.State.TheVariants.{Open, Closed}
 use Rattle.esc_simplex.specs.Senses.{Sense}
-use Rattle.esc_simplex.specs.declared.stop.Stop.{Stop}
-use Rattle.esc_simplex.specs.declared.stop.Stop.TheVariants as stop
 use Rattle.esc_sharing.specs.Admitted.{AgreesOn, AreEqualBy}
 use Rattle.esc_sharing.specs.Calls.{TellsMore}
 use Rattle.esc_sharing.specs.KnownInside.{node_at}
 use Rattle.esc_sharing.specs.Nodes.{node_term}
 use Rattle.esc_sharing.specs.Numbers.{AddsMade, IsNumber, number_terms}
-use Rattle.esc_sharing.specs.Shared.{AdmitsAll, AreParts, HaveNoModel, IsUnderway, Shared}
-use Rattle.esc_sharing.specs.Shared.{literals_in}
+use Rattle.esc_sharing.specs.Shared.{AdmitsAll, AreParts, Shared, literals_in}
 use Rattle.esc_sharing.specs.SharingUndo.{sharing_undo}
 use Rattle.esc_sharing.specs.declared.literal.Lit.{Lit}
 use Rattle.esc_sharing.specs.declared.record.PartRec.{PartRec}
@@ -87,14 +81,7 @@ pub record IsOrder (g : Graph) (known : List (ℕ × ℕ)) (order : List Telling
 abbrev pub AllAgree : Shared → Type 0
 AllAgree v = (x : Assignment) → v.admits x → AgreesOn v.graph v.numbers x
 
--- ---- what a step answers and leaves
-
--- Open where this is done, and Closed where no model makes all literals hold
-abbrev pub StepEnds : Shared → Type 0 → Result State Stop → Type 0
-StepEnds w Done (Ok Open) = Done
-StepEnds w Done (Ok Closed) = HaveNoModel (literals_in w)
-StepEnds w Done (Err stop.Memory) = Unit {0}
-StepEnds w Done (Err _) = IsUnderway w
+-- ---- what a step leaves
 
 -- these literals and groups came behind the others, and pairs were told
 pub record Keeps {T Q W : Type 0} (theory_undo : Undo T Q) (carry : PartRec Q → W)

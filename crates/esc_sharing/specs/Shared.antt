@@ -90,6 +90,12 @@ AdmitsJust v asking telling =
 abbrev pub AdmitsAll : Shared → Type 0
 AdmitsAll v = AdmitsJust v (flat_map asked (items_in v)) (flat_map both_gaps (told_in v))
 
+-- the nodes are arithmetic, and stand in one class
+pub record AreToldIn (g : Graph) (numbers : List (ℕ × Term)) (pair : ℕ × ℕ) : Type 0 where
+  pub first : IsNumber numbers pair.0
+  pub second : IsNumber numbers pair.1
+  pub together : SameClass (number_of g) pair.0 pair.1
+
 -- so many gaps of the literals are asked, and of the told pairs, where the last literal and the
 -- last pair may be underway
 pub record IsUnderway (v : Shared) : Type 0 where
@@ -100,6 +106,8 @@ pub record IsUnderway (v : Shared) : Type 0 where
   pub admits : AdmitsJust v (take asking (flat_map asked (items_in v)))
       (take telling (flat_map both_gaps (told_in v)))
   pub follow : All (AreEqualInModels (literals_in v)) (told_in v)
+  pub numbers : AreNumbersOf v.graph v.numbers
+  pub told : All (AreToldIn v.graph v.numbers) v.told
 
 -- ---- the whole
 
@@ -112,12 +120,6 @@ IsMetIn g lit = Unit {0}
 abbrev pub denied_pair : Lit → List (ℕ × ℕ)
 denied_pair (Apart a b) = (a, b) ∷ []
 denied_pair lit = []
-
--- the nodes are arithmetic, and stand in one class
-pub record AreToldIn (g : Graph) (numbers : List (ℕ × Term)) (pair : ℕ × ℕ) : Type 0 where
-  pub first : IsNumber numbers pair.0
-  pub second : IsNumber numbers pair.1
-  pub together : SameClass (number_of g) pair.0 pair.1
 
 -- the parts belong together
 pub record AreParts (v : Shared) : Type 0 where

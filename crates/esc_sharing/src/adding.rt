@@ -2,16 +2,13 @@
 
 ghost use Rattle.std.specs.Prelude.{◌≡◌, ◌<◌, [], ◌∷◌, ◌++◌, if◌then◌else◌};
 ghost use Rattle.std.specs.Prelude.{IfErr, IfOk, IsTrue, OnOk};
-ghost use Rattle.std.specs.List.{All, fold};
-ghost use Rattle.esc_term.specs.Term.{is_ground, subterms, with_once};
+ghost use Rattle.std.specs.List.{All};
+ghost use Rattle.esc_term.specs.Term.{is_ground};
 ghost use Rattle.esc_trail.specs.Undo.{Notes};
-ghost use Rattle.esc_egraph.specs.Congruence.{IsMet};
-ghost use Rattle.esc_egraph.specs.GraphUndo.{graph_undo};
-ghost use Rattle.esc_sharing.specs.AddingInside.{AreNodesFor, IsGrown, KeepsTerms, terms_at};
-ghost use Rattle.esc_sharing.specs.Calls.{AddEnds, AddsNumbers, IsNodeOf, becoming};
-ghost use Rattle.esc_sharing.specs.Nodes.{node_count, terms_in};
+ghost use Rattle.esc_sharing.specs.Calls.{AddEnds, AddsNumbers, GathersFor, IsNodeOf, KeepsTerms};
+ghost use Rattle.esc_sharing.specs.Calls.{PutsInPlay, StepEnds, becoming, terms_at};
+ghost use Rattle.esc_sharing.specs.Nodes.{node_count};
 ghost use Rattle.esc_sharing.specs.Numbers.{AddsMade, IsNumber, number_terms};
-ghost use Rattle.esc_sharing.specs.SettlingInside.{StepEnds};
 ghost use Rattle.esc_sharing.specs.Shared.{IsShared, seen};
 ghost use Rattle.esc_sharing.specs.SharingUndo.{part_carried, sharing_undo};
 ghost use Rattle.esc_sharing.specs.Stops.{UnlessMemory};
@@ -55,41 +52,47 @@ impl<T: Theory> Sharing<T> {
             (part_carried R.carried_node R.carried_group R.carried_share R.carried)
             trail.old.records trail.new.records self.old self.new }
     {
-        let Ok(found) = self.put_in_play(term, side, trail) else {
+        let mut numbers = Vec::new(self.alloc);
+        let Ok(node) = self.add_nodes(term, side, &mut numbers, trail) else {
             return Err(Stop::Memory);
         };
-        let state = self.settle_numbers(found.1.as_slice(), trail)?;
-        Ok((found.0, state))
+        numbers.sort_unstable_by_key(|number| number.index());
+        let state = self.make_arithmetic(numbers.as_slice(), trail)?;
+        Ok((node, state))
     }
 
-    /// The node of a term, and the nodes that become arithmetic by it, in the order of making.
-    fn put_in_play<R: CarriesNodes>(
+    /// The node of a ground term, which comes in play with its subterms where it is not. The nodes
+    /// that are to become arithmetic by it come behind the numbers, in no order and not each once.
+    /// It fails only where memory is wanting, and then some of the subterms may be in play.
+    pub fn add_nodes<R: CarriesNodes + CarriesGroups + CarriesShare + Carries<T::Rec>>(
         &mut self,
         term: &Term,
         side: bool,
+        numbers: &mut Vec<Node>,
         trail: &mut Trail<R>,
-    ) -> Result<(Node, Vec<Node>), AllocError>
-        requires met { IsMet self.old.graph }
+    ) -> Result<Node, AllocError>
         requires ground { IsTrue (is_ground term.now) }
+        requires shared { IsShared (seen T.sound T.admits T.numbers self.old) }
+        ensures shared { OnOk result (IsShared (seen T.sound T.admits T.numbers self.new)) }
         ensures rest { self.new ≡ record self.old { graph = self.new.graph } }
-        ensures grown { OnOk result (IsGrown self.old.graph self.new.graph) }
-        ensures terms { OnOk result (terms_in self.new.graph
-            ≡ fold with_once (terms_in self.old.graph) (subterms term.now)) }
-        ensures node { IfOk result (λ found. IsNodeOf self.new.graph term.now found.0) }
-        ensures numbers { IfOk result (λ found.
-            AreNodesFor self.new.graph found.1.items (becoming term.now side)) }
-        ensures undo { Notes graph_undo R.carried_node trail.old.records trail.new.records
-            self.old.graph self.new.graph }
+        ensures puts { OnOk result (PutsInPlay (seen T.sound T.admits T.numbers self.old)
+            (seen T.sound T.admits T.numbers self.new) term.now) }
+        ensures node { IfOk result (IsNodeOf self.new.graph term.now) }
+        ensures numbers { OnOk result (GathersFor self.new.graph numbers.old.items
+            numbers.new.items (becoming term.now side)) }
+        ensures undo { Notes (sharing_undo T.undo)
+            (part_carried R.carried_node R.carried_group R.carried_share R.carried)
+            trail.old.records trail.new.records self.old self.new }
     {
-        let mut numbers = Vec::new(self.alloc);
-        let node = make_term(&mut self.graph, term, &mut numbers, self.alloc, trail)?;
-        push_side(&mut numbers, node, side)?;
-        numbers.sort_unstable_by_key(|number| number.index());
-        Ok((node, numbers))
+        let node = make_term(&mut self.graph, term, numbers, self.alloc, trail)?;
+        push_side(numbers, node, side)?;
+        Ok(node)
     }
 
-    /// Makes nodes arithmetic, and tells what that brings.
-    fn settle_numbers<R: CarriesNodes + CarriesGroups + CarriesShare + Carries<T::Rec>>(
+    /// Makes nodes arithmetic, in this order, as far as they are not, and tells graph and theory
+    /// what that brings. Closed only where no model makes all literals hold. After an error but for
+    /// want of memory some may be arithmetic, and the last told pair may be underway.
+    pub fn make_arithmetic<R: CarriesNodes + CarriesGroups + CarriesShare + Carries<T::Rec>>(
         &mut self,
         nodes: &[Node],
         trail: &mut Trail<R>,

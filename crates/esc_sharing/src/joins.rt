@@ -10,7 +10,8 @@ ghost use Rattle.esc_distinct.specs.Groups.{AreBroken};
 ghost use Rattle.esc_sharing.specs.Admitted.{AreEqualBy, AreTwoNumbers};
 ghost use Rattle.esc_sharing.specs.KnownInside.{AreKnownBy};
 ghost use Rattle.esc_sharing.specs.Nodes.{node_term};
-ghost use Rattle.esc_sharing.specs.SettlingInside.{IsUnsettled, Keeps, StepEnds};
+ghost use Rattle.esc_sharing.specs.SettlingInside.{IsUnsettled, Keeps};
+ghost use Rattle.esc_sharing.specs.Calls.{StepEnds};
 ghost use Rattle.esc_sharing.specs.Shared.{seen};
 ghost use Rattle.esc_sharing.specs.SharingUndo.{part_carried};
 

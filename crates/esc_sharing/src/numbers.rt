@@ -3,7 +3,7 @@
 ghost use Rattle.std.specs.Prelude.{◌<◌, [], ◌++◌, IfErr, OnOk};
 ghost use Rattle.std.specs.List.{All};
 ghost use Rattle.esc_trail.specs.Undo.{Notes};
-ghost use Rattle.esc_sharing.specs.AddingInside.{terms_at};
+ghost use Rattle.esc_sharing.specs.Calls.{terms_at};
 ghost use Rattle.esc_sharing.specs.Admitted.{AdmitsWith};
 ghost use Rattle.esc_sharing.specs.Calls.{AddsNumbers};
 ghost use Rattle.esc_sharing.specs.Nodes.{node_count};

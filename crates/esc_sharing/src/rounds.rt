@@ -3,7 +3,8 @@
 ghost use Rattle.std.specs.Prelude.{[], IfErr};
 ghost use Rattle.esc_sharing.specs.KnownInside.{AreKnownBy, AreLabeled};
 ghost use Rattle.esc_sharing.specs.Numbers.{number_terms};
-ghost use Rattle.esc_sharing.specs.SettlingInside.{IsUnsettled, Keeps, StepEnds};
+ghost use Rattle.esc_sharing.specs.SettlingInside.{IsUnsettled, Keeps};
+ghost use Rattle.esc_sharing.specs.Calls.{StepEnds};
 ghost use Rattle.esc_sharing.specs.Shared.{IsShared, seen};
 ghost use Rattle.esc_sharing.specs.SharingUndo.{part_carried};
 ghost use Rattle.esc_sharing.specs.Stops.{UnlessMemory};

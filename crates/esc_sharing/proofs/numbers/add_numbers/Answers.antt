@@ -4,7 +4,7 @@ use Rattle.std.specs.Prelude.{IfErr}
 use Rattle.std.specs.List.{Contains}
 use Rattle.esc_sharing.specs.Stops.{UnlessMemory}
 use Rattle.esc_trail.proofs.Noting.{notes_both, notes_nothing}
-use Rattle.esc_sharing.specs.AddingInside.{terms_at}
+use Rattle.esc_sharing.specs.Calls.{terms_at}
 use Rattle.esc_sharing.specs.Calls.{AddsNumbers}
 use Rattle.esc_sharing.specs.Nodes.{node_count, node_term}
 use Rattle.esc_sharing.specs.Numbers.{AreNumbersOf, IsNumber, number_terms, with_number}

@@ -1,6 +1,6 @@
 use Rattle.std.proofs.Common.{◌<◌, ℕ, [], ◌++◌, get_or}
 use Rattle.esc_trail.specs.Undo.{Notes}
-use Rattle.esc_sharing.specs.AddingInside.{terms_at}
+use Rattle.esc_sharing.specs.Calls.{terms_at}
 use Rattle.esc_sharing.specs.Admitted.{AdmitsWith}
 use Rattle.esc_sharing.specs.Calls.{AddsNumbers}
 use Rattle.esc_sharing.specs.Numbers.{AddsMade, AreNumbersOf, IsNumber, number_terms}

@@ -4,7 +4,8 @@ use Rattle.esc_egraph.specs.Graph.{Graph}
 use Rattle.esc_egraph.proofs.Counting.{fewer_merges}
 use Rattle.esc_sharing.specs.Admitted.{NextEnds}
 use Rattle.esc_sharing.specs.KnownInside.{AreKnownBy, AreLabeled}
-use Rattle.esc_sharing.specs.SettlingInside.{IsUnsettled, StepEnds}
+use Rattle.esc_sharing.specs.SettlingInside.{IsUnsettled}
+use Rattle.esc_sharing.specs.Calls.{StepEnds}
 use Rattle.esc_sharing.specs.Shared.{seen}
 use Rattle.esc_sharing.proofs.Labels.{labeled_still}
 use Rattle.esc_sharing.proofs.Settling.{asked_keeps, asked_shared, asked_two, asked_unsettled}

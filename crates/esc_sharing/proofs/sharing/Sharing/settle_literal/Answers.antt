@@ -5,7 +5,7 @@ use Rattle.esc_egraph.specs.Graph.{number_of}
 use Rattle.esc_sharing.specs.KnownInside.{AreKnownBy, AreLabeled}
 use Rattle.esc_sharing.specs.Literals.{sides}
 use Rattle.esc_sharing.specs.Numbers.{arithmetic_among, number_terms, pair_terms}
-use Rattle.esc_sharing.specs.SettlingInside.{StepEnds}
+use Rattle.esc_sharing.specs.Calls.{StepEnds}
 use Rattle.esc_sharing.specs.Shared.{seen}
 use Rattle.esc_sharing.proofs.LiteralSteps.{stop_by_more}
 use Rattle.esc_sharing.proofs.SharingNotes.{keeps_then}

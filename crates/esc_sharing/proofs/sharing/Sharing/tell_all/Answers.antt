@@ -3,7 +3,7 @@ use Rattle.std.specs.Prelude.{Ok}
 use Rattle.esc_egraph.specs.Graph.{Graph}
 use Rattle.esc_egraph.specs.declared.state.State.TheVariants.{Open}
 use Rattle.esc_sharing.specs.KnownInside.{AreLabeled, node_at}
-use Rattle.esc_sharing.specs.SettlingInside.{StepEnds}
+use Rattle.esc_sharing.specs.Calls.{StepEnds}
 use Rattle.esc_sharing.specs.Shared.{AreToldIn, seen}
 use Rattle.esc_sharing.proofs.SharingNotes.{keeps_nothing, keeps_then}
 use Rattle.esc_sharing.proofs.ToldInOrder.{known_there, knows_both, knows_same, telling-done}

@@ -4,7 +4,8 @@ use Rattle.std.proofs.lemmas.List.{append-nil}
 use Rattle.std.proofs.lemmas.List.Elements.{All-nil}
 use Rattle.esc_trail.proofs.Noting.{notes_both}
 use Rattle.esc_egraph.specs.Graph.{number_of}
-use Rattle.esc_sharing.specs.AddingInside.{WereKnown, terms_at}
+use Rattle.esc_sharing.specs.AddingInside.{WereKnown}
+use Rattle.esc_sharing.specs.Calls.{terms_at}
 use Rattle.esc_sharing.specs.KnownInside.{AreKnownBy}
 use Rattle.esc_sharing.specs.Numbers.{IsNumber, number_terms}
 use Rattle.esc_sharing.specs.Shared.{seen}
@@ -15,7 +16,7 @@ use Rattle.esc_sharing.proofs.SharingNotes.{made_both, tells_nothing, theory_not
 use Rattle.esc_sharing.proofs.ToldPairs.{all_underway}
 use Rattle.esc_sharing.proofs.ToldSharing.{ends_err}
 use Rattle.esc_sharing.proofs.Whole.{unsettled_fewer}
-use Rattle.esc_sharing.proofs.sharing.Sharing.settle_numbers.Goals as goal
+use Rattle.esc_sharing.proofs.sharing.Sharing.make_arithmetic.Goals as goal
 
 -- ---- a node stops it
 

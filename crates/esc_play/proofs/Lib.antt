@@ -1,0 +1,6 @@
+pub mod Bringing
+pub mod FormulaForms
+pub mod Limit
+pub mod MorePlay
+pub mod OrderSides
+pub mod Played
