@@ -6,14 +6,11 @@ use Rattle.std.specs.List.{cons_option, flat_map}
 use Rattle.std.proofs.lemmas.List.{take_more}
 use Rattle.std.proofs.lemmas.List.Elements.{filter_map-append}
 use Rattle.esc_term.specs.declared.formula.Formula.{Formula}
-use Rattle.esc_term.specs.declared.formula.Item.{Item}
 use Rattle.esc_term.specs.declared.term.Sym.{Sym}
-use Rattle.esc_egraph.specs.Graph.{Graph}
 use Rattle.esc_fact.specs.Fact.{formula_of, formulas_of}
 use Rattle.esc_fact.specs.declared.base.Base.{Base}
 use Rattle.esc_fact.specs.declared.fact.Fact.{Fact}
 use Rattle.esc_sharing.proofs.Lists.{flat_map-push}
-use Rattle.esc_context.specs.HeldApartInside.{AreHeldApart}
 use Rattle.esc_context.specs.JudgingInside.{Labels}
 use Rattle.esc_context.specs.declared.labelled.Label.{Label}
 use Rattle.esc_context.proofs.LabelsBehind.{labels_both}
@@ -50,10 +47,3 @@ module _ (base : Base) (facts : List Fact) (i : ℕ) (fact : Fact) (l : i < leng
   fact_labelled (Some f) named some came =
       facts_labelled base facts i fact l at f named labels_for old now new before came
   fact_labelled None named some came = absurd (true≢false (sym some))
-
--- the same of a graph and groups that are read
-pub held_read : (g h : Graph) (groups read : List (List ℕ)) (literals : List Item) → h ≡ g
-    → read ≡ groups → AreHeldApart g groups literals → AreHeldApart h read literals
-held_read g h groups read literals e k held =
-    subst (λ x. AreHeldApart x read literals) (sym e)
-    (subst (λ x. AreHeldApart g x literals) (sym k) held)

@@ -1,8 +1,6 @@
 pub mod ClassTerms
 pub mod ClassValues
 pub mod FactLabels
-pub mod HeldApart
-pub mod Holding
 pub mod LabelLevels
 pub mod Listing
 pub mod LabelsBehind
@@ -11,6 +9,4 @@ pub mod LiteralSigns
 pub mod Marking
 pub mod NamesOnce
 pub mod NoNodes
-pub mod Passing
-pub mod SomeTwo
 pub mod Telling

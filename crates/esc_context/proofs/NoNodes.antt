@@ -10,8 +10,8 @@ use Rattle.esc_egraph.specs.Graph.{Graph, IsGraph}
 use Rattle.esc_branch.proofs.Together.{node_of_term}
 use Rattle.esc_sharing.specs.Nodes.{classes_in, node_count, node_term, same_in, terms_in}
 use Rattle.esc_sharing.proofs.ClassTests.{same_in-equivalence}
-use Rattle.esc_context.specs.HeldApartInside.{AreHeldApart}
-use Rattle.esc_context.proofs.HeldApart.{kept_apart}
+use Rattle.esc_said.specs.HeldApart.{AreHeldApart}
+use Rattle.esc_said.proofs.HeldApart.{kept_apart}
 
 -- no node has the term
 abbrev pub HasNoNode : Graph → Term → Type 0

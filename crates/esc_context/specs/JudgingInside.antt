@@ -5,23 +5,21 @@ use Rattle.esc_term.specs.declared.formula.Item.{Item}
 use Rattle.esc_term.specs.declared.term.Sym.{Sym}
 use Rattle.esc_term.specs.declared.term.Term.{Term}
 use Rattle.esc_cover.specs.Cover.{Cover, cover}
-use Rattle.esc_egraph.specs.Graph.{IsGraph}
 use Rattle.esc_sharing.specs.Nodes.{classes_in}
+use Rattle.esc_said.specs.Speaking.{SpeaksFor}
 use Rattle.esc_outcome.specs.Labels.{labels_in, told_if}
-use Rattle.esc_context.specs.HeldApartInside.{AreHeldApart}
 use Rattle.esc_context.specs.declared.judge.Judge.{Judge}
 use Rattle.esc_context.specs.declared.labelled.Label.{Label}
 
 abbrev pub classes_for : Judge → List (List Term)
-classes_for j = classes_in j.graph.now
+classes_for j = classes_in j.saying.graph.now
 
 abbrev pub literals_for : Judge → List Item
 literals_for j = j.literals.now
 
--- graph and groups hold apart what the literals do
-pub record IsJudge (j : Judge) : Type 0 where
-  pub graph : IsGraph j.graph.now
-  pub held : AreHeldApart j.graph.now j.groups.now (literals_for j)
+-- its literals are spoken for
+abbrev pub IsJudge : Judge → Type 0
+IsJudge j = SpeaksFor j.saying (literals_for j)
 
 abbrev pub cover_by : Judge → Formula → Cover
 cover_by j = cover (literals_for j) (classes_for j)

@@ -1,4 +1,3 @@
 pub mod ClassesInside
-pub mod HeldApartInside
 pub mod JudgingInside
 pub mod Left

@@ -1,29 +1,22 @@
 //! What literals and classes say of atoms.
 
-use crate::said::Said;
-use esc_distinct::Groups;
-use esc_egraph::{EGraph, Node};
 use esc_outcome::Literals;
+use esc_said::{Said, Saying};
 use esc_term::{Formula, Term};
 
-/// A graph and groups that hold apart what literals do.
+/// Literals, and who speaks for them.
 #[derive(Clone, Copy)]
 pub(crate) struct Judge<'a> {
-    pub(crate) graph: &'a EGraph,
-    pub(crate) groups: &'a Groups,
+    pub(crate) saying: Saying<'a>,
     pub(crate) literals: &'a Literals,
 }
 
 impl<'a> Judge<'a> {
-    ghost use Rattle.std.specs.Prelude.{◌≡◌, ◌⊎◌, ◌↔◌, ◌<◌, IsTrue};
+    ghost use Rattle.std.specs.Prelude.{◌≡◌};
     ghost use Rattle.std.specs.List.{list_all, list_any};
     ghost use Rattle.esc_term.specs.declared.formula.Formula.TheVariants as formula;
     ghost use Rattle.esc_cover.specs.Classes.{together};
     ghost use Rattle.esc_cover.specs.Cover.{by_literal, every_two, is_forced_apart, some_two};
-    ghost use Rattle.esc_egraph.specs.Congruence.{ForcedApart};
-    ghost use Rattle.esc_egraph.specs.Graph.{number_of};
-    ghost use Rattle.esc_distinct.specs.Groups.{AreApart};
-    ghost use Rattle.esc_sharing.specs.Nodes.{node_count, node_term};
     ghost use Rattle.esc_context.specs.JudgingInside.{IsJudge, classes_for, cover_by, literals_for};
 
     /// What is said of an equation.
@@ -32,44 +25,13 @@ impl<'a> Judge<'a> {
         ensures holds { result.holds ≡ (cover_by self.now (formula.Eq left.now right.now)).holds }
         ensures fails { result.fails ≡ (cover_by self.now (formula.Eq left.now right.now)).fails }
     {
-        let Some(a) = self.graph.node_of(left) else {
+        let Some(a) = self.saying.graph.node_of(left) else {
             return Said::NOTHING;
         };
-        let Some(b) = self.graph.node_of(right) else {
+        let Some(b) = self.saying.graph.node_of(right) else {
             return Said::NOTHING;
         };
-        self.said_nodes(a, b)
-    }
-
-    /// What is said of the equation of two nodes' terms.
-    fn said_nodes(&self, a: Node, b: Node) -> Said
-        requires judge { IsJudge self.now }
-        requires a_is_there { a < node_count self.now.graph.now }
-        requires b_is_there { b < node_count self.now.graph.now }
-        ensures holds { result.holds ≡ together (classes_for self.now)
-            (node_term self.now.graph.now a) (node_term self.now.graph.now b) }
-        ensures fails { result.fails ≡ is_forced_apart (literals_for self.now)
-            (classes_for self.now) (node_term self.now.graph.now a)
-            (node_term self.now.graph.now b) }
-    {
-        if self.graph.same(a, b) {
-            return Said::HOLDS;
-        }
-        Said {
-            holds: false,
-            fails: self.keeps_apart(a, b),
-        }
-    }
-
-    /// Whether the graph or the groups keep the classes of two nodes apart.
-    fn keeps_apart(&self, a: Node, b: Node) -> bool
-        requires judge { IsJudge self.now }
-        requires a_is_there { a < node_count self.now.graph.now }
-        requires b_is_there { b < node_count self.now.graph.now }
-        ensures { IsTrue result ↔ (ForcedApart self.now.graph.now a b
-            ⊎ AreApart (number_of self.now.graph.now) self.now.groups.now a b) }
-    {
-        self.graph.forced_apart(a, b) || self.groups.apart(self.graph, a, b)
+        self.saying.equal(a, b)
     }
 
     /// What is said of a distinction.

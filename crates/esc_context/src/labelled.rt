@@ -1,7 +1,7 @@
 //! Labels of formulas.
 
 use crate::judge::Judge;
-use crate::said::Said;
+use esc_said::Said;
 use esc_term::{Formula, Sym};
 use std::alloc::AllocError;
 

@@ -11,9 +11,9 @@ ghost use Rattle.esc_context.specs.Left.{IsLeft};
 
 use crate::judge::Judge;
 use crate::labelled::Label;
-use crate::said::Said;
 use esc_fact::{Base, Fact, Facts, formula_of};
 use esc_outcome::{Literals, Syms};
+use esc_said::{Said, Saying, saying_laws};
 use esc_sharing::Sharing;
 use esc_simplex::Simplex;
 use indexmap::IndexSet;
@@ -33,11 +33,13 @@ pub fn labels(
     ensures labels { IfOk result (λ names. names ≡ labels_of literals.now
         (classes_in sharing.now.graph) (formulas_of base.now live.now)) }
 {
-    let judge = Judge {
+    saying_laws();
+    let saying = Saying {
         graph: sharing.graph(),
         groups: sharing.groups(),
-        literals,
+        asserted: sharing.asserted(),
     };
+    let judge = Judge { saying, literals };
     let mut labels = Vec::new(alloc);
     'facts: for fact in live.as_slice() {
         labelled_fact(alloc, &judge, base, fact, &mut labels)?;

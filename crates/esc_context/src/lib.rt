@@ -7,7 +7,6 @@ mod context;
 mod judge;
 mod labelled;
 mod labelling;
-mod said;
 
 pub use context::counterexample;
 pub use labelling::labels;

@@ -1,27 +1,20 @@
 use Rattle.std.proofs.Common.{◌≡◌, ◌<◌, List, [], length, get_or, refl, sym, subst}
 use Rattle.std.specs.Prelude.{IfSome}
 use Rattle.std.proofs.lemmas.List.Elements.{All-get_or}
-use Rattle.esc_egraph.specs.Graph.{Graph, IsGraph}
+use Rattle.esc_egraph.specs.Graph.{Graph}
 use Rattle.esc_fact.specs.Fact.{IsFact, formula_of}
 use Rattle.esc_fact.specs.declared.fact.Fact.{Fact}
 use Rattle.esc_outcome.specs.Labels.{labels_in}
 use Rattle.esc_sharing.specs.Nodes.{classes_in}
 use Rattle.esc_context.specs.JudgingInside.{Labels}
-use Rattle.esc_context.specs.Left.{shared_of}
-use Rattle.esc_context.proofs.FactLabels.{fact_labelled, held_read}
-use Rattle.esc_context.proofs.Holding.{held_apart}
+use Rattle.esc_context.proofs.FactLabels.{fact_labelled}
 use Rattle.esc_context.proofs.labelling.labels.Goals as goal
 
 pub labelled_fact-requires-clause-judge : goal.labelled_fact-requires-clause-judge
 labelled_fact-requires-clause-judge c =
-    let s = c.args.sharing.now in
-    let left = c.requires.left in
-    record {
-      graph = subst IsGraph (sym c.graph.ensures) left.shared.parts.graph;
-      held = held_read s.graph c.graph.result.now s.groups c.groups.result.now
-          c.args.literals.now c.graph.ensures c.groups.ensures
-          (held_apart (shared_of s) left.shared c.args.literals.now left.asserted);
-    }
+    c.saying_laws.ensures c.args.sharing.now _ c.args.literals.now
+    (record { graph = c.graph.ensures; groups = c.groups.ensures; asserted = c.asserted.ensures })
+    c.requires.left.shared c.requires.left.asserted
 
 pub facts-preserved : goal.facts-preserved
 facts-preserved c =

@@ -11,8 +11,8 @@ use Rattle.esc_clause.proofs.clauses.Clauses.refine.Goals as goal
 pub clauses-init : goal.clauses-init
 clauses-init g c = Refining-starts g.R.Carries.carried _ c.args.self.now _ _ refl
 
-pub settle-requires-there : goal.settle-requires-there
-settle-requires-there g c =
+pub settle-requires-clause-there : goal.settle-requires-clause-there
+settle-requires-clause-there g c =
     let there : c.clauses.at < length c.args.self.now.clauses = grind (arith, common_steps) in
     omega (
       arith,

@@ -5,7 +5,7 @@ use Rattle.esc_outcome.specs.Labels.{told_if}
 use Rattle.esc_context.specs.JudgingInside.{Labels, classes_for, cover_by, labels_by, literals_for}
 use Rattle.esc_context.proofs.LabelLevels as levels
 use Rattle.esc_context.proofs.LabelsBehind.{labels_both, labels_headed, labels_more, labels_same}
-use Rattle.esc_context.proofs.Passing.{all_more, any_more}
+use Rattle.esc_said.proofs.Passing.{all_more, any_more}
 use Rattle.esc_context.proofs.judge.Judge.+labelled.Goals.{labelled_as-else-positive}
 use Rattle.esc_context.proofs.judge.Judge.+labelled.Goals.{labelled_as-then-positive}
 use Rattle.esc_context.proofs.judge.Judge.+labelled.Goals as goal

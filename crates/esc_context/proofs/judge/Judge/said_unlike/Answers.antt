@@ -2,7 +2,7 @@ use Rattle.std.proofs.Common.{ap, ◌∙◌}
 use Rattle.esc_cover.specs.Classes.{together}
 use Rattle.esc_cover.specs.Cover.{is_forced_apart}
 use Rattle.esc_cover.proofs.CoverLevels.{cover-Eq}
-use Rattle.esc_context.proofs.Passing.{all_more, any_more}
+use Rattle.esc_said.proofs.Passing.{all_more, any_more}
 use Rattle.esc_context.specs.JudgingInside.{classes_for, literals_for}
 use Rattle.esc_context.proofs.judge.Judge.said_unlike.Goals as goal
 

@@ -43,8 +43,8 @@ use Rattle.esc_sharing.specs.Nodes.{classes_in, node_term, same_in, terms_in}
 use Rattle.esc_sharing.proofs.ClassTests as tests
 use Rattle.esc_sharing.proofs.ClassTests.{nodes_of_same, same_in-equivalence}
 use Rattle.esc_sharing.proofs.Lists.{Contains-map, Contains-of_map}
-use Rattle.esc_context.specs.HeldApartInside.{AreHeldApart, denial, distinction}
-use Rattle.esc_context.proofs.SomeTwo.{some_two_at, some_two_found}
+use Rattle.esc_said.specs.HeldApart.{AreHeldApart, denial, distinction}
+use Rattle.esc_said.proofs.SomeTwo.{some_two_at, some_two_found}
 
 -- ---- numerals
 

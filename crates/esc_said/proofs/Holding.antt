@@ -19,9 +19,9 @@ use Rattle.esc_sharing.specs.declared.literal.Lit.TheVariants.{Equal, Apart, Bel
 use Rattle.esc_sharing.proofs.Consistent.{Less_no_Eq, asserted_literal}
 use Rattle.esc_sharing.proofs.Consistent.{group_literal, of_literal, signs_differ}
 use Rattle.esc_sharing.proofs.Lists.{Contains-map, Contains-of_map}
-use Rattle.esc_context.specs.HeldApartInside.{AreHeldApart, denial, distinction}
+use Rattle.esc_said.specs.HeldApart.{AreHeldApart, denial, distinction}
 
-less_no_distinct : (s t : Term) (ts : List Term) → formula.Less s t ≡ formula.Distinct ts → ⊥
+pub less_no_distinct : (s t : Term) (ts : List Term) → formula.Less s t ≡ formula.Distinct ts → ⊥
 less_no_distinct s t ts e = absurd (cc)
 
 module _ (v : Shared) (shared : IsShared v) where

@@ -1,0 +1,3 @@
+pub mod HeldApart
+pub mod SayingInside
+pub mod Speaking
