@@ -1,0 +1,7 @@
+mod HeadsLevels
+mod Indexing
+mod Laying
+mod Nested
+mod Pairs
+mod Reading
+mod Writings

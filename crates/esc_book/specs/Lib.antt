@@ -1,0 +1,9 @@
+pub mod Atom
+pub mod Book
+pub mod BookInside
+pub mod BookUndo
+pub mod GroupInside
+pub mod Judging
+pub mod LiveInside
+pub mod ReadingInside
+pub mod WritingInside
