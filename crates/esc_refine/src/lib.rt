@@ -2,5 +2,6 @@
 #![tactic(auto)]
 
 mod refining;
+mod thinning;
 
 pub use refining::{next_split, refine};

@@ -10,7 +10,9 @@ ghost use Rattle.esc_live.specs.Promises.{IsBranch, IsGiven, IsSoundIn};
 ghost use Rattle.esc_live.specs.View.{judge_on};
 ghost use Rattle.esc_refine.specs.Refining.{IsQuiet, SplitsAt};
 
-use esc_clause::Occurrence;
+use crate::thinning::thin;
+use esc_book::book_laws;
+use esc_clause::{Occurrence, Refined, expansion_laws};
 use esc_egraph::State;
 use esc_live::{LiveBranch, LiveRec};
 use esc_simplex::Stop;
@@ -28,7 +30,19 @@ pub fn refine(branch: &mut LiveBranch, trail: &mut Trail<LiveRec>) -> Result<Sta
     ensures undo { Notes live_undo (λ rec. rec) trail.old.records trail.new.records
         branch.old branch.new }
 {
-    Err(Stop::Memory)
+    'rounds: loop {
+        let Ok(told) = thin(branch, trail) else {
+            return Err(Stop::Memory);
+        };
+        match told {
+            Refined::Empty => return Ok(State::Closed),
+            Refined::Quiet => return Ok(State::Open),
+            Refined::Unit(at) => match branch.decide(at, true, trail)? {
+                State::Open => (),
+                State::Closed => return Ok(State::Closed),
+            },
+        }
+    }
 }
 
 /// Where to split: the first item that is left of the first clause that is not satisfied; nowhere
@@ -39,5 +53,6 @@ pub fn next_split(branch: &LiveBranch) -> Option<Occurrence>
     ensures exact { result ≡ next_split (judge_on branch.now) branch.now.clauses }
     ensures splits { SplitsAt branch.now result }
 {
+    expansion_laws();
     branch.clauses.next_split(&branch.judge())
 }

@@ -1,0 +1,10 @@
+mod Done
+mod Judged
+mod Lightened
+mod Parts
+mod Rounds
+mod Thins
+mod Told
+mod Truths
+mod Waiting
+mod Wholes
