@@ -1,19 +1,16 @@
 -- Where each clause is satisfied, all that was expanded is covered.
-use Rattle.std.proofs.Common.{◌≡◌, ◌⊎◌, inl, inr, ℕ, zero, suc, ◌<◌, Bool, true, false, IsTrue}
-use Rattle.std.proofs.Common.{List, [], ◌∷◌, Option, Some, None, Any, refl, ap, sym, subst, ◌∙◌}
+use Rattle.std.proofs.Common.{◌≡◌, inl, inr, ℕ, zero, suc, ◌<◌, IsTrue}
+use Rattle.std.proofs.Common.{List, [], ◌∷◌, Option, Some, None, Any, refl, sym, subst, ◌∙◌}
 use Rattle.std.proofs.Common.{arith}
 use Rattle.std.specs.List.{All, Contains, filter, filter_map, slice_get}
 use Rattle.std.specs.Option.{IsSome, option_map}
-use Rattle.std.proofs.lemmas.List.Elements.{All-cons, All-contains, All-contains_itself, All-nil}
-use Rattle.std.proofs.lemmas.List.Elements.{All-weaker}
+use Rattle.std.proofs.lemmas.List.Elements.{All-cons, All-contains, All-nil}
 use Rattle.esc_term.proofs.Members.{Contains-here, Contains-later}
 use Rattle.esc_term.specs.declared.formula.Formula.{Formula}
-use Rattle.esc_term.specs.declared.formula.Item.{Item}
 use Rattle.esc_cover.specs.Cover.{cover}
-use Rattle.esc_cover.specs.Counterexample.{AllCovered}
 use Rattle.esc_cover.proofs.TestLemmas.{of_kept}
 use Rattle.esc_sharing.proofs.Lists.{All-each, Any-contains, Contains-of_map}
-use Rattle.esc_clause.specs.ClauseContext.{Clause, items_left, left_in}
+use Rattle.esc_clause.specs.ClauseContext.{items_left, left_in}
 use Rattle.esc_clause.specs.Expansion.{AllOf, Expansion, Literal, OneOfEach, expanded}
 use Rattle.esc_clause.specs.Laws.{ConsistentSaysNothingTwice, ExpansionIsComplete, ExpansionIsSo}
 use Rattle.esc_clause.specs.Laws.{IsCovered, IsSo, SaysNothingTwice}
@@ -23,9 +20,9 @@ use Rattle.esc_clause.specs.declared.decision.Decision.{Decision}
 use Rattle.esc_clause.specs.declared.occurrence.Occurrence.{Occurrence}
 use Rattle.esc_clause.specs.declared.truth.Truth.TheVariants.{Yes}
 use Rattle.esc_book.specs.Book.{IsLiveOccurrence}
-use Rattle.esc_live.specs.Expanded.{IsExpanded, IsKept, covered, parts, split}
+use Rattle.esc_live.specs.Expanded.{IsKept, covered, parts, split}
 use Rattle.esc_live.specs.Promises.{IsBranch, WasExpanded, decided_as, whole_at}
-use Rattle.esc_live.specs.View.{classes_on, judge_on, literals_on, live_on, logged}
+use Rattle.esc_live.specs.View.{classes_on, judge_on, literals_on, logged}
 use Rattle.esc_live.specs.declared.branch.LiveBranch.{LiveBranch}
 use Rattle.esc_refine.specs.Refining.{IsDone}
 use Rattle.esc_refine.specs.ThinningInside.{truth_on}
@@ -45,7 +42,8 @@ All-filter_map h P (x ∷ xs) each =
   where
     go : (o : Option _) → h x ≡ o → All P (filter_map h xs) → All P (filter_map h (x ∷ xs))
     go None e rest = rw e rest
-    go (Some y) e rest = rw e (All-cons P y (filter_map h xs) (each x (Contains-here x xs) y e) rest)
+    go (Some y) e rest =
+        rw e (All-cons P y (filter_map h xs) (each x (Contains-here x xs) y e) rest)
 
 -- ---- by the size of the formula
 
@@ -53,7 +51,6 @@ module _ (v : LiveBranch) (complete : ExpansionIsComplete)
     (twice : SaysNothingTwice (literals_on v) (classes_on v))
     (none : waiting_of (truth_on v) v.clauses.clauses ≡ [])
     (decided : All (λ d. WasExpanded v (decided_as d)) v.clauses.decisions) where
-
   abbrev Covered : Occurrence → Type 0
   Covered = IsSo (IsCovered (literals_on v) (classes_on v)) (logged v)
 

@@ -1,8 +1,7 @@
 -- What literals and classes say of an occurrence, in models and as covered.
-use Rattle.std.proofs.Common.{◌≡◌, Bool, true, false, not, IsTrue, List, Option, Some, None, refl}
-use Rattle.std.proofs.Common.{ap, sym, subst, ◌∙◌, if◌then◌else◌, true≢false}
+use Rattle.std.proofs.Common.{◌≡◌, Bool, true, false, not, Option, Some, None, refl}
+use Rattle.std.proofs.Common.{sym, subst, ◌∙◌, if◌then◌else◌, true≢false}
 use Rattle.std.specs.Option.{IsSomeAnd, option_map_or}
-use Rattle.esc_term.specs.declared.term.Term.{Term}
 use Rattle.esc_term.specs.declared.formula.Formula.{Formula}
 use Rattle.esc_term.specs.declared.formula.Item.{Item}
 use Rattle.esc_term.specs.Interpretation.{truth}

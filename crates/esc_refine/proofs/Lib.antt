@@ -3,6 +3,7 @@ mod Judged
 mod Lightened
 mod Parts
 mod Rounds
+mod Splits
 mod Thins
 mod Told
 mod Truths

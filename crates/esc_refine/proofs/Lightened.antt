@@ -1,17 +1,15 @@
 -- A branch without items that fail.
-use Rattle.std.proofs.Common.{◌≡◌, ◌⊎◌, inl, inr, Bool, true, false, not, ◌&&◌, List, [], ◌∷◌, map}
+use Rattle.std.proofs.Common.{◌≡◌, inl, inr, Bool, true, false, not, ◌&&◌, List, [], ◌∷◌}
 use Rattle.std.proofs.Common.{Any, zero, suc, is_some, refl, ap, sym, subst, ◌∙◌, arith}
 use Rattle.std.specs.List.{All, AllPairs, Contains, filter}
 use Rattle.std.proofs.lemmas.List.Elements.{All-contains}
 use Rattle.esc_term.proofs.Members.{Contains-here}
 use Rattle.esc_term.specs.declared.formula.Formula.{Formula}
-use Rattle.esc_term.specs.declared.formula.Item.{Item}
-use Rattle.esc_term.specs.declared.term.Term.{Term}
 use Rattle.esc_term.specs.Interpretation.{truth}
 use Rattle.esc_term.specs.Model.{Model, read_in}
 use Rattle.esc_cover.specs.Arithmetic.{InPlay, play_of}
 use Rattle.esc_cover.specs.Laws.{CoverIsSound, HoldsIn, IsSaidIn}
-use Rattle.esc_cover.proofs.TestLemmas.{kept, not_both, of_kept}
+use Rattle.esc_cover.proofs.TestLemmas.{kept, of_kept}
 use Rattle.esc_sharing.proofs.Lists.{All-each, Any-contains, Contains-map}
 use Rattle.esc_sharing.specs.ModelLaws.{LeastStays}
 use Rattle.esc_sharing.specs.Shared.{literals_in, play_in}
@@ -19,30 +17,29 @@ use Rattle.esc_outcome.specs.JamLaws.{shared_in}
 use Rattle.esc_trail.specs.Undo.{Notes}
 use Rattle.esc_trail.proofs.Noting.{IsPart, notes_within}
 use Rattle.esc_book.specs.Book.{IsLiveOccurrence}
-use Rattle.esc_clause.specs.ClauseContext.{Clause, ClauseContext, items_left, left_in}
+use Rattle.esc_clause.specs.ClauseContext.{ClauseContext, items_left, left_in}
 use Rattle.esc_clause.specs.ClausesUndo.{clauses_undo}
 use Rattle.esc_clause.specs.Laws.{IsSo}
-use Rattle.esc_clause.specs.Refinement.{is_no, is_same_place, is_satisfied, judged_by, left_of}
+use Rattle.esc_clause.specs.Refinement.{is_no, is_same_place}
 use Rattle.esc_clause.specs.Refinement.{lighter, refined}
 use Rattle.esc_clause.specs.declared.decision.Decision.{Decision}
 use Rattle.esc_clause.specs.declared.occurrence.Occurrence.{Occurrence}
-use Rattle.esc_clause.specs.declared.record.ClauseRec.{ClauseRec}
 use Rattle.esc_clause.specs.declared.truth.Refined.{Refined}
 use Rattle.esc_clause.specs.declared.truth.Refined.TheVariants.{Empty, Quiet, Unit}
 use Rattle.esc_clause.specs.declared.truth.Truth.{Truth}
 use Rattle.esc_clause.specs.declared.truth.Truth.TheVariants.{Yes, No, Open}
-use Rattle.esc_live.specs.Expanded.{IsExpanded, IsKept, covered, parts, split}
+use Rattle.esc_live.specs.Expanded.{IsKept, covered, parts, split}
 use Rattle.esc_live.specs.LiveUndo.{live_lawful, live_undo}
-use Rattle.esc_live.specs.Promises.{AreDecisions, IsBranch, IsMade, IsSharedOn, IsSoundIn}
+use Rattle.esc_live.specs.Promises.{IsBranch, IsMade, IsSharedOn, IsSoundIn}
 use Rattle.esc_live.specs.Promises.{IsUndecided, WasExpanded, decided_as, whole_at}
 use Rattle.esc_live.specs.View.{classes_on, judge_on, literals_on, live_on, logged}
 use Rattle.esc_live.specs.declared.branch.LiveBranch.{LiveBranch}
 use Rattle.esc_live.specs.declared.record.LiveRec.{LiveRec}
 use Rattle.esc_live.specs.declared.record.LiveRec.TheVariants.{Clauses}
-use Rattle.esc_refine.specs.ThinningInside.{Comes, IsAlone, IsThinner, Tells, truth_on}
+use Rattle.esc_refine.specs.ThinningInside.{Comes, Tells, truth_on}
 use Rattle.esc_refine.specs.ThinningInside.{with_clauses}
 use Rattle.esc_refine.proofs.Judged.{judged_not}
-use Rattle.esc_refine.proofs.Parts.{IsPart as IsPartOf, clause_part}
+use Rattle.esc_refine.proofs.Parts.{clause_part}
 use Rattle.esc_refine.proofs.Told.{Waits, left_open, waits_empty, waits_unit}
 use Rattle.esc_refine.proofs.Truths.{decided_not, judged_cases, open_undecided, some_there}
 use Rattle.esc_refine.proofs.Waiting.{AreLighter, filter-filter, lighter-among, newer_of, older_of}

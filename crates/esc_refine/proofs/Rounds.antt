@@ -4,9 +4,7 @@ use Rattle.std.proofs.Common.{map, Result, Ok, Err, refl, ap, sym, subst, ◌∙
 use Rattle.std.proofs.Common.{length-append}
 use Rattle.std.proofs.lemmas.List.{append-nil, length-map}
 use Rattle.std.proofs.lemmas.List.Elements.{All-map, All-weaker}
-use Rattle.std.specs.List.{All, AllPairs}
 use Rattle.esc_term.specs.Model.{Model}
-use Rattle.esc_cover.specs.Laws.{HoldsIn}
 use Rattle.esc_trail.specs.Undo.{Notes}
 use Rattle.esc_trail.proofs.Noting.{notes_both, notes_nothing}
 use Rattle.esc_egraph.specs.declared.state.State.{State}
@@ -18,20 +16,19 @@ use Rattle.esc_outcome.specs.TreeLaws.{occurrences_in}
 use Rattle.esc_outcome.proofs.Counting.{AllPairs-map, different_few}
 use Rattle.esc_book.specs.Book.{IsLiveOccurrence}
 use Rattle.esc_clause.specs.ClauseContext.{ClauseContext}
-use Rattle.esc_clause.specs.Laws.{IsSo}
 use Rattle.esc_clause.specs.Refinement.{is_same_place}
 use Rattle.esc_clause.specs.declared.decision.Decision.{Decision}
 use Rattle.esc_clause.specs.declared.occurrence.Occurrence.{Occurrence}
 use Rattle.esc_clause.specs.declared.truth.Refined.{Refined}
-use Rattle.esc_clause.specs.declared.truth.Refined.TheVariants.{Empty, Quiet, Unit}
-use Rattle.esc_live.specs.Calls.{AddsLiterals, Ends, GoesOn, HoldsWithDecision}
+use Rattle.esc_clause.specs.declared.truth.Refined.TheVariants.{Empty, Unit}
+use Rattle.esc_live.specs.Calls.{Ends, GoesOn, HoldsWithDecision}
 use Rattle.esc_live.specs.LiveUndo.{live_lawful, live_undo}
-use Rattle.esc_live.specs.Promises.{IsBranch, IsGiven, IsSoundIn, decided_as}
+use Rattle.esc_live.specs.Promises.{IsBranch, IsGiven, IsSoundIn}
 use Rattle.esc_live.specs.View.{logged}
 use Rattle.esc_live.specs.declared.branch.LiveBranch.{LiveBranch}
 use Rattle.esc_live.specs.declared.record.LiveRec.{LiveRec}
 use Rattle.esc_refine.specs.RoundsInside.{Goes, Round, Stands}
-use Rattle.esc_refine.specs.ThinningInside.{IsAlone, IsThinner, Tells, with_clauses}
+use Rattle.esc_refine.specs.ThinningInside.{IsThinner, Tells, with_clauses}
 
 -- ---- what stays
 
@@ -51,12 +48,16 @@ more_behind xs ys zs more further e f =
 GoesOn-then : (u v w : LiveBranch) → GoesOn u v → GoesOn v w → GoesOn u w
 GoesOn-then u v w a b = record {
   book = b.book ∙ a.book;
-  literals = (a.literals.0 ++ b.literals.0,
-      more_behind u.literals v.literals w.literals a.literals.0 b.literals.0 a.literals.1
-      b.literals.1);
-  decisions = (a.decisions.0 ++ b.decisions.0,
-      more_behind u.clauses.decisions v.clauses.decisions w.clauses.decisions a.decisions.0
-      b.decisions.0 a.decisions.1 b.decisions.1);
+  literals = (
+    a.literals.0 ++ b.literals.0,
+    more_behind u.literals v.literals w.literals a.literals.0 b.literals.0 a.literals.1
+        b.literals.1,
+  );
+  decisions = (
+    a.decisions.0 ++ b.decisions.0,
+    more_behind u.clauses.decisions v.clauses.decisions w.clauses.decisions a.decisions.0
+        b.decisions.0 a.decisions.1 b.decisions.1,
+  );
   limit = b.limit ∙ a.limit;
 }
 

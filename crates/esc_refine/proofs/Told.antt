@@ -1,6 +1,6 @@
 -- What is read off what clauses come to.
-use Rattle.std.proofs.Common.{◌≡◌, Bool, true, false, not, if◌then◌else◌, List, [], ◌∷◌, Option}
-use Rattle.std.proofs.Common.{Some, None, refl, ap, sym, subst, ◌∙◌}
+use Rattle.std.proofs.Common.{◌≡◌, Bool, true, false, not, if◌then◌else◌, List, [], ◌∷◌}
+use Rattle.std.proofs.Common.{Some, None, refl, ap, sym, subst}
 use Rattle.std.specs.List.{Contains, filter, filter_map, list_any}
 use Rattle.esc_term.proofs.Members.{Contains-here, Contains-later, Contains-none}
 use Rattle.esc_cover.proofs.TestLemmas.{any_at, any_found, false_from, kept, not_both, not_true}
@@ -8,10 +8,9 @@ use Rattle.esc_cover.proofs.TestLemmas.{of_kept}
 use Rattle.esc_sharing.proofs.Lists.{Contains-map, Contains-of_map}
 use Rattle.esc_clause.specs.ClauseContext.{Clause, items_left}
 use Rattle.esc_clause.specs.PassesInside.{waiting_of}
-use Rattle.esc_clause.specs.Refinement.{first, is_empty, is_no, is_satisfied, is_yes, left_of}
+use Rattle.esc_clause.specs.Refinement.{is_empty, is_no, is_satisfied, is_yes, left_of}
 use Rattle.esc_clause.specs.Refinement.{refined_among, single, split_among, unit_among}
 use Rattle.esc_clause.specs.declared.occurrence.Occurrence.{Occurrence}
-use Rattle.esc_clause.specs.declared.truth.Refined.{Refined}
 use Rattle.esc_clause.specs.declared.truth.Refined.TheVariants.{Empty, Quiet, Unit}
 use Rattle.esc_clause.specs.declared.truth.Truth.{Truth}
 use Rattle.esc_clause.specs.declared.truth.Truth.TheVariants.{Yes, No, Open}

@@ -1,9 +1,9 @@
 -- What decisions and literals say of an occurrence.
-use Rattle.std.proofs.Common.{◌≡◌, ◌==◌, ◌⊎◌, inl, inr, ℕ, Bool, true, false, not, ◌&&◌, List, []}
+use Rattle.std.proofs.Common.{◌≡◌, ◌==◌, ◌⊎◌, inl, inr, ℕ, Bool, true, false, List, []}
 use Rattle.std.proofs.Common.{◌∷◌, Option, Some, None, refl, ap, ap₂, sym, subst, ◌∙◌}
-use Rattle.std.proofs.Common.{if◌then◌else◌, true≢false}
+use Rattle.std.proofs.Common.{if◌then◌else◌}
 use Rattle.std.specs.List.{All, Contains, slice_get}
-use Rattle.std.specs.Option.{IsSome, IsSomeAnd, option_and_then, option_map, option_map_or}
+use Rattle.std.specs.Option.{IsSome, IsSomeAnd, option_and_then, option_map}
 use Rattle.std.proofs.lemmas.Bool.Decides.{Decides-eqb}
 use Rattle.std.proofs.lemmas.List.Elements.{All-cons, All-nil}
 use Rattle.esc_term.proofs.Members.{Contains-here, Contains-later}
@@ -22,10 +22,12 @@ use Rattle.esc_live.specs.Promises.{decided_as}
 -- ---- places
 
 pub same_fact : (a b : Occurrence) → is_same_place a b ≡ true → a.fact ≡ b.fact
-same_fact a b e = (Decides-eqb a.fact b.fact).0 (and_left (a.fact == b.fact) (a.place == b.place) e)
+same_fact a b e =
+    (Decides-eqb a.fact b.fact).0 (and_left (a.fact == b.fact) (a.place == b.place) e)
 
 pub same_place : (a b : Occurrence) → is_same_place a b ≡ true → a.place ≡ b.place
-same_place a b e = (Decides-eqb a.place b.place).0 (and_right (a.fact == b.fact) (a.place == b.place) e)
+same_place a b e =
+    (Decides-eqb a.place b.place).0 (and_right (a.fact == b.fact) (a.place == b.place) e)
 
 pub same_formula : (fs : List Formula) (a b : Occurrence) → is_same_place a b ≡ true
     → formula_at fs a ≡ formula_at fs b
@@ -52,7 +54,10 @@ pub judged_cases : (judge : Occurrence → Truth) (ds : List Decision) (item : O
     → IsLeftTo judge ds item (judged_by judge ds item)
     ⊎ IsDecidedBy ds item (judged_by judge ds item)
 judged_cases judge [] item =
-    inl (record { undecided = All-nil (λ (d : Decision). is_same_place d.at item ≡ false); says = refl })
+    inl (record {
+      undecided = All-nil (λ (d : Decision). is_same_place d.at item ≡ false);
+      says = refl;
+    })
 judged_cases judge (d ∷ ds) item =
     go (is_same_place d.at item) refl (judged_cases judge ds item)
   where

@@ -1,21 +1,17 @@
 -- What lightened clauses come to, and what is read off what clauses come to.
-use Rattle.std.proofs.Common.{◌≡◌, ◌⊎◌, inl, inr, ℕ, zero, suc, Bool, true, false, not, ◌||◌, ◌&&◌, cond}
-use Rattle.std.proofs.Common.{if◌then◌else◌, List, [], ◌∷◌, ◌++◌, map, take, drop, Option, Some, None}
+use Rattle.std.proofs.Common.{◌≡◌, inl, inr, ℕ, zero, suc, Bool, true, false, not, ◌||◌, ◌&&◌, cond}
+use Rattle.std.proofs.Common.{if◌then◌else◌, List, [], ◌∷◌, ◌++◌, map, take, drop}
 use Rattle.std.proofs.Common.{refl, ap, sym, subst, ◌∙◌}
-use Rattle.std.specs.List.{AllZip, Contains, filter, filter_map, list_any}
+use Rattle.std.specs.List.{AllZip, Contains, filter}
 use Rattle.esc_term.proofs.Members.{Contains-cases, Contains-here, Contains-later, Contains-none}
-use Rattle.esc_cover.proofs.TestLemmas.{any_at, any_found, false_from, kept, not_both, of_kept}
-use Rattle.esc_sharing.proofs.Lists.{Contains-map, Contains-of_map}
 use Rattle.esc_clause.specs.ClauseContext.{Clause, ClauseContext, items_left}
 use Rattle.esc_clause.specs.PassesInside.{waiting_of}
-use Rattle.esc_clause.specs.Refinement.{first, is_empty, is_failed, is_no, is_satisfied, is_yes}
+use Rattle.esc_clause.specs.Refinement.{is_failed, is_no, is_satisfied, is_yes}
 use Rattle.esc_clause.specs.Refinement.{judged_by, left_of, lightened, lightened_among, lighter}
-use Rattle.esc_clause.specs.Refinement.{refined, refined_among, single, split_among, thinned}
-use Rattle.esc_clause.specs.Refinement.{thinned_member, unit_among, waiting_in}
+use Rattle.esc_clause.specs.Refinement.{refined, refined_among, thinned}
+use Rattle.esc_clause.specs.Refinement.{thinned_member}
 use Rattle.esc_clause.specs.declared.member.Member.{Member}
 use Rattle.esc_clause.specs.declared.occurrence.Occurrence.{Occurrence}
-use Rattle.esc_clause.specs.declared.truth.Refined.{Refined}
-use Rattle.esc_clause.specs.declared.truth.Refined.TheVariants.{Empty, Quiet, Unit}
 use Rattle.esc_clause.specs.declared.truth.Truth.{Truth}
 use Rattle.esc_clause.specs.declared.truth.Truth.TheVariants.{Yes, No, Open}
 
@@ -108,7 +104,7 @@ module _ (truth : Occurrence → Truth) where
   lighter-front (suc n) [] = tt
   lighter-front (suc n) (c ∷ cs) = (Lightens-lightened c, lighter-front n cs)
 
--- ---- clauses before and after
+  -- ---- clauses before and after
 
   -- an older clause of which the clause is what is left
   pub record HasOlder (cs : List Clause) (items : List Occurrence) : Type 0 where
@@ -136,12 +132,12 @@ module _ (truth : Occurrence → Truth) where
   older_of (c ∷ cs) (d ∷ ds) so items h =
       elim (Contains-cases (items_left d) (map items_left ds) items h) [
         | inl same ↦ record {
-            clause = c;
-            among = Contains-here c cs;
-            test = so.0.test;
-            left = sym same ∙ so.0.left;
-            keeps = so.0.keeps;
-          }
+          clause = c;
+          among = Contains-here c cs;
+          test = so.0.test;
+          left = sym same ∙ so.0.left;
+          keeps = so.0.keeps;
+        }
         | inr later ↦ older-later c cs items (older_of cs ds so.1 items later)
       ]
 
@@ -158,11 +154,11 @@ module _ (truth : Occurrence → Truth) where
   newer_of (c ∷ cs) (d ∷ ds) so items h =
       elim (Contains-cases (items_left c) (map items_left cs) items h) [
         | inl same ↦ record {
-            test = so.0.test;
-            left = subst (Contains (map items_left (d ∷ ds)))
-                (so.0.left ∙ ap (filter so.0.test) same)
-                (Contains-here (items_left d) (map items_left ds));
-          }
+          test = so.0.test;
+          left = subst (Contains (map items_left (d ∷ ds)))
+              (so.0.left ∙ ap (filter so.0.test) same)
+              (Contains-here (items_left d) (map items_left ds));
+        }
         | inr later ↦ let more = newer_of cs ds so.1 items later in
             record {
               test = more.test;

@@ -1,5 +1,5 @@
 -- A formula is the first of its occurrences.
-use Rattle.std.proofs.Common.{◌≡◌, List, Option, Some, None, ap, subst, ◌∙◌}
+use Rattle.std.proofs.Common.{◌≡◌, List, Some, ap, subst, ◌∙◌}
 use Rattle.std.specs.List.{slice_get}
 use Rattle.std.specs.Option.{option_and_then}
 use denote.Hole.Carrier.{roll}

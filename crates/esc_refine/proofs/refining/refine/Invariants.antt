@@ -3,8 +3,7 @@ use Rattle.esc_refine.proofs.Rounds.{decisions_left}
 use Rattle.esc_refine.proofs.refining.refine.Given as goal
 
 abbrev pub invariant-rounds : goal.invariant-rounds
-invariant-rounds g l =
-    Round l.fn.trail.records l.fn.branch l.trail.records l.branch
+invariant-rounds l = Round l.fn.trail.records l.fn.branch l.trail.records l.branch
 
 abbrev pub decreases-rounds : goal.decreases-rounds
-decreases-rounds g l = decisions_left l.branch
+decreases-rounds l = decisions_left l.branch
