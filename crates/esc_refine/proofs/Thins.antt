@@ -3,7 +3,7 @@ use Rattle.std.proofs.Common.{◌≡◌, List, Result, Ok, Err, IfOk, OnOk, OnEr
 use Rattle.std.proofs.Common.{◌∙◌, if◌then◌else◌}
 use Rattle.std.specs.List.{All}
 use Rattle.esc_book.specs.Book.{BookView, IsBook, IsLiveOccurrence, is_live, items_of}
-use Rattle.esc_book.specs.Judging.{IsReady, judged_by_book, truth_at}
+use Rattle.esc_book.specs.Judging.{IsReady, truth_at}
 use Rattle.esc_book.specs.declared.judge.BookJudge.{BookJudge}
 use Rattle.esc_clause.specs.ClauseContext.{ClauseContext}
 use Rattle.esc_clause.specs.Refinement.{IsLighter, lighter, refined}
@@ -22,7 +22,7 @@ use Rattle.esc_refine.proofs.Lightened.{SaysSo, thinned_branch, thinned_tells}
 
 -- ---- the judge of a branch
 
-abbrev judge_by : BookView → List Occurrence → Graph → Occurrence → Truth
+abbrev pub judge_by : BookView → List Occurrence → Graph → Occurrence → Truth
 judge_by book literals graph at =
     if is_live book at.fact
     then truth_at book.logged (items_of book literals) (classes_in graph) at
@@ -35,12 +35,6 @@ pub record IsJudgeOf (j : BookJudge) (v : LiveBranch) : Type 0 where
   pub literals : j.literals.now ≡ v.literals
 
 module _ (j : BookJudge) (v : LiveBranch) (of : IsJudgeOf j v) where
-  pub judged_on : judged_by_book j ≡ judge_on v
-  judged_on =
-      ap (λ b. judge_by b j.literals.now j.saying.graph.now) of.book
-      ∙ ap (λ ls. judge_by v.book ls j.saying.graph.now) of.literals
-      ∙ ap (λ g. judge_by v.book v.literals g) of.saying.graph
-
   pub ready_on : SharingSpeaks → IsBranch v → IsReady j
   ready_on speaks is = record {
     book = subst (λ g. IsBook g j.book.now) (sym of.saying.graph)
@@ -52,6 +46,11 @@ module _ (j : BookJudge) (v : LiveBranch) (of : IsJudgeOf j v) where
         (speaks v.sharing j.saying (literals_on v) of.saying is.shared.shared
         is.shared.asserted));
   }
+
+-- with the graph of the branch it says what the branch does
+pub judged_on : (v : LiveBranch) (g : Graph) → g ≡ v.sharing.graph
+    → judge_by v.book v.literals g ≡ judge_on v
+judged_on v g e = ap (λ h. judge_by v.book v.literals h) e
 
 -- ---- both answers
 

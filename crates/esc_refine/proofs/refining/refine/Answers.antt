@@ -1,4 +1,4 @@
-use Rattle.std.proofs.Common.{Ok, refl, subst, sym, true}
+use Rattle.std.proofs.Common.{Err, Ok, refl, subst, sym, true}
 use Rattle.esc_egraph.specs.declared.state.State.TheVariants.{Closed}
 use Rattle.esc_tableau.proofs.RunLaws.{err_is}
 use Rattle.esc_live.specs.Calls.{Ends, HoldsWithDecision}
@@ -21,6 +21,9 @@ thin-requires c = record { branch = c.rounds.invariant.stands.branch }
 
 pub returns-in_default-clause-ends : goal.returns-in_default-clause-ends
 returns-in_default-clause-ends c = tt
+
+pub returns-in_default-clause-quiet : goal.returns-in_default-clause-quiet
+returns-in_default-clause-quiet c e = cc
 
 pub returns-in_default-clause-goes_on : goal.returns-in_default-clause-goes_on
 returns-in_default-clause-goes_on c =
@@ -47,6 +50,9 @@ returns-in-Empty-clause-ends c =
     thin_closed c.args.trail.now.records c.args.branch.now c.rounds.branch c.thin.new.branch
     c.rounds.invariant.stands
     (subst (Tells c.rounds.branch c.thin.new.branch) c.in-Empty.is c.in-Ok.ensures.tells)
+
+pub returns-in-Empty-clause-quiet : goal.returns-in-Empty-clause-quiet
+returns-in-Empty-clause-quiet c e = cc
 
 pub returns-in-Empty-clause-goes_on : goal.returns-in-Empty-clause-goes_on
 returns-in-Empty-clause-goes_on c =
@@ -124,9 +130,15 @@ returns-in_err-decide-in-Unit-clause-ends c =
     (sym (err_is c.from_residual.result c.in_err-decide-in-Unit.field-0.0
     c.from_residual.ensures))
     (decided_ends c.args.trail.now.records c.args.branch.now c.rounds.branch c.thin.new.branch
-    c.decide.new.self c.in-Unit.at _ c.rounds.invariant.stands
+    c.decide.new.self c.in-Unit.at (Err c.in_err-decide-in-Unit.field-0.0)
+    c.rounds.invariant.stands
     (subst (Tells c.rounds.branch c.thin.new.branch) c.in-Unit.is c.in-Ok.ensures.tells)
     c.in_err-decide-in-Unit.ensures.ends)
+
+pub returns-in_err-decide-in-Unit-clause-quiet : goal.returns-in_err-decide-in-Unit-clause-quiet
+returns-in_err-decide-in-Unit-clause-quiet c e =
+    let is =
+    err_is c.from_residual.result c.in_err-decide-in-Unit.field-0.0 c.from_residual.ensures in cc
 
 pub returns-in_err-decide-in-Unit-clause-goes_on
     : goal.returns-in_err-decide-in-Unit-clause-goes_on
@@ -191,6 +203,9 @@ returns-in-Closed-clause-ends c =
     (subst (λ s. Ends c.decide.new.self
     (HoldsWithDecision c.thin.new.branch (record { at = c.in-Unit.at; holds = true })) (Ok s))
     c.in-Closed.is c.in_ok-decide-in-Unit.ensures.ends)
+
+pub returns-in-Closed-clause-quiet : goal.returns-in-Closed-clause-quiet
+returns-in-Closed-clause-quiet c e = cc
 
 pub returns-in-Closed-clause-goes_on : goal.returns-in-Closed-clause-goes_on
 returns-in-Closed-clause-goes_on c =

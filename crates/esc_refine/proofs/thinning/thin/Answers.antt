@@ -26,32 +26,14 @@ returns-clause-thinner c =
 pub returns-clause-branch : goal.returns-clause-branch
 returns-clause-branch c =
     still_branch c.args.branch.now _ c.refine.new.self c.requires.branch
-    (judged_on _ c.args.branch.now
-    (record {
-      book = refl;
-      saying = record {
-        graph = c.graph.ensures;
-        groups = c.groups.ensures;
-        asserted = c.asserted.ensures;
-      };
-      literals = refl;
-    })) c.refine.result
+    (judged_on c.args.branch.now _ c.graph.ensures) c.refine.result
     (says_so c.args.branch.now c.requires.branch.shared c.unquantified_laws.ensures.least
     c.model_laws.ensures.sound) c.refine.ensures.ok
 
 pub returns-clause-tells : goal.returns-clause-tells
 returns-clause-tells c =
     tells_of c.args.branch.now _ c.refine.new.self c.requires.branch
-    (judged_on _ c.args.branch.now
-    (record {
-      book = refl;
-      saying = record {
-        graph = c.graph.ensures;
-        groups = c.groups.ensures;
-        asserted = c.asserted.ensures;
-      };
-      literals = refl;
-    })) c.refine.result
+    (judged_on c.args.branch.now _ c.graph.ensures) c.refine.result
     (says_so c.args.branch.now c.requires.branch.shared c.unquantified_laws.ensures.least
     c.model_laws.ensures.sound) c.refine.ensures.ok c.refine.ensures.exact
 
