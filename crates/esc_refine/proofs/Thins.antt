@@ -1,19 +1,17 @@
 -- What going through the clauses of a branch leaves of it, at either answer.
-use Rattle.std.proofs.Common.{◌≡◌, List, Result, Ok, Err, IfOk, OnOk, OnErr, refl, ap, sym, subst}
-use Rattle.std.proofs.Common.{◌∙◌, if◌then◌else◌}
+use Rattle.std.proofs.Common.{◌≡◌, Result, Ok, Err, IfOk, OnOk, OnErr, refl, ap, sym, subst}
+use Rattle.std.proofs.Common.{◌∙◌}
 use Rattle.std.specs.List.{All}
-use Rattle.esc_book.specs.Book.{BookView, IsBook, IsLiveOccurrence, is_live, items_of}
-use Rattle.esc_book.specs.Judging.{IsReady, truth_at}
+use Rattle.esc_book.specs.Book.{IsBook, IsLiveOccurrence, items_of}
+use Rattle.esc_book.specs.Judging.{IsReady}
 use Rattle.esc_book.specs.declared.judge.BookJudge.{BookJudge}
 use Rattle.esc_clause.specs.ClauseContext.{ClauseContext}
 use Rattle.esc_clause.specs.Refinement.{IsLighter, lighter, refined}
 use Rattle.esc_clause.specs.declared.occurrence.Occurrence.{Occurrence}
 use Rattle.esc_clause.specs.declared.truth.Refined.{Refined}
 use Rattle.esc_clause.specs.declared.truth.Truth.{Truth}
-use Rattle.esc_clause.specs.declared.truth.Truth.TheVariants.{Open}
 use Rattle.esc_egraph.specs.Graph.{Graph}
 use Rattle.esc_said.specs.Speaking.{IsSayingOf, SharingSpeaks, SpeaksFor}
-use Rattle.esc_sharing.specs.Nodes.{classes_in}
 use Rattle.esc_live.specs.Promises.{IsBranch}
 use Rattle.esc_live.specs.View.{judge_on, literals_on}
 use Rattle.esc_live.specs.declared.branch.LiveBranch.{LiveBranch}
@@ -21,12 +19,6 @@ use Rattle.esc_refine.specs.ThinningInside.{IsThinner, Tells, with_clauses}
 use Rattle.esc_refine.proofs.Lightened.{SaysSo, thinned_branch, thinned_tells}
 
 -- ---- the judge of a branch
-
-abbrev pub judge_by : BookView → List Occurrence → Graph → Occurrence → Truth
-judge_by book literals graph at =
-    if is_live book at.fact
-    then truth_at book.logged (items_of book literals) (classes_in graph) at
-    else Open
 
 -- the judge has the parts of the branch
 pub record IsJudgeOf (j : BookJudge) (v : LiveBranch) : Type 0 where
@@ -47,10 +39,13 @@ module _ (j : BookJudge) (v : LiveBranch) (of : IsJudgeOf j v) where
         is.shared.asserted));
   }
 
--- with the graph of the branch it says what the branch does
+abbrev pub with_graph : LiveBranch → Graph → LiveBranch
+with_graph v g = record v { sharing = record v.sharing { graph = g } }
+
+-- with the graph of the branch the same is said
 pub judged_on : (v : LiveBranch) (g : Graph) → g ≡ v.sharing.graph
-    → judge_by v.book v.literals g ≡ judge_on v
-judged_on v g e = ap (λ h. judge_by v.book v.literals h) e
+    → judge_on (with_graph v g) ≡ judge_on v
+judged_on v g e = ap (λ h. judge_on (with_graph v h)) e
 
 -- ---- both answers
 

@@ -27,21 +27,18 @@ returns-in_default-clause-quiet c e = cc
 
 pub returns-in_default-clause-goes_on : goal.returns-in_default-clause-goes_on
 returns-in_default-clause-goes_on c =
-    (Goes-thinned c.args.trail.now.records c.args.branch.now c.rounds.trail.records
-    c.thin.new.trail.records c.rounds.branch c.thin.new.branch c.rounds.invariant.goes
-    c.thin.ensures.thinner c.thin.ensures.undo).goes_on
+    (Goes-thinned _ _ _ _ _ _ c.rounds.invariant.goes c.thin.ensures.thinner
+    c.thin.ensures.undo).goes_on
 
 pub returns-in_default-clause-given : goal.returns-in_default-clause-given
 returns-in_default-clause-given c =
-    (Goes-thinned c.args.trail.now.records c.args.branch.now c.rounds.trail.records
-    c.thin.new.trail.records c.rounds.branch c.thin.new.branch c.rounds.invariant.goes
-    c.thin.ensures.thinner c.thin.ensures.undo).given
+    (Goes-thinned _ _ _ _ _ _ c.rounds.invariant.goes c.thin.ensures.thinner
+    c.thin.ensures.undo).given
 
 pub returns-in_default-clause-undo : goal.returns-in_default-clause-undo
 returns-in_default-clause-undo c =
-    (Goes-thinned c.args.trail.now.records c.args.branch.now c.rounds.trail.records
-    c.thin.new.trail.records c.rounds.branch c.thin.new.branch c.rounds.invariant.goes
-    c.thin.ensures.thinner c.thin.ensures.undo).undo
+    (Goes-thinned _ _ _ _ _ _ c.rounds.invariant.goes c.thin.ensures.thinner
+    c.thin.ensures.undo).undo
 
 -- ---- a clause has nothing left
 
@@ -56,21 +53,18 @@ returns-in-Empty-clause-quiet c e = cc
 
 pub returns-in-Empty-clause-goes_on : goal.returns-in-Empty-clause-goes_on
 returns-in-Empty-clause-goes_on c =
-    (Goes-thinned c.args.trail.now.records c.args.branch.now c.rounds.trail.records
-    c.thin.new.trail.records c.rounds.branch c.thin.new.branch c.rounds.invariant.goes
-    c.thin.ensures.thinner c.thin.ensures.undo).goes_on
+    (Goes-thinned _ _ _ _ _ _ c.rounds.invariant.goes c.thin.ensures.thinner
+    c.thin.ensures.undo).goes_on
 
 pub returns-in-Empty-clause-given : goal.returns-in-Empty-clause-given
 returns-in-Empty-clause-given c =
-    (Goes-thinned c.args.trail.now.records c.args.branch.now c.rounds.trail.records
-    c.thin.new.trail.records c.rounds.branch c.thin.new.branch c.rounds.invariant.goes
-    c.thin.ensures.thinner c.thin.ensures.undo).given
+    (Goes-thinned _ _ _ _ _ _ c.rounds.invariant.goes c.thin.ensures.thinner
+    c.thin.ensures.undo).given
 
 pub returns-in-Empty-clause-undo : goal.returns-in-Empty-clause-undo
 returns-in-Empty-clause-undo c =
-    (Goes-thinned c.args.trail.now.records c.args.branch.now c.rounds.trail.records
-    c.thin.new.trail.records c.rounds.branch c.thin.new.branch c.rounds.invariant.goes
-    c.thin.ensures.thinner c.thin.ensures.undo).undo
+    (Goes-thinned _ _ _ _ _ _ c.rounds.invariant.goes c.thin.ensures.thinner
+    c.thin.ensures.undo).undo
 
 -- ---- nothing is left to do
 
@@ -88,21 +82,18 @@ returns-in-Quiet-clause-quiet c e =
 
 pub returns-in-Quiet-clause-goes_on : goal.returns-in-Quiet-clause-goes_on
 returns-in-Quiet-clause-goes_on c =
-    (Goes-thinned c.args.trail.now.records c.args.branch.now c.rounds.trail.records
-    c.thin.new.trail.records c.rounds.branch c.thin.new.branch c.rounds.invariant.goes
-    c.thin.ensures.thinner c.thin.ensures.undo).goes_on
+    (Goes-thinned _ _ _ _ _ _ c.rounds.invariant.goes c.thin.ensures.thinner
+    c.thin.ensures.undo).goes_on
 
 pub returns-in-Quiet-clause-given : goal.returns-in-Quiet-clause-given
 returns-in-Quiet-clause-given c =
-    (Goes-thinned c.args.trail.now.records c.args.branch.now c.rounds.trail.records
-    c.thin.new.trail.records c.rounds.branch c.thin.new.branch c.rounds.invariant.goes
-    c.thin.ensures.thinner c.thin.ensures.undo).given
+    (Goes-thinned _ _ _ _ _ _ c.rounds.invariant.goes c.thin.ensures.thinner
+    c.thin.ensures.undo).given
 
 pub returns-in-Quiet-clause-undo : goal.returns-in-Quiet-clause-undo
 returns-in-Quiet-clause-undo c =
-    (Goes-thinned c.args.trail.now.records c.args.branch.now c.rounds.trail.records
-    c.thin.new.trail.records c.rounds.branch c.thin.new.branch c.rounds.invariant.goes
-    c.thin.ensures.thinner c.thin.ensures.undo).undo
+    (Goes-thinned _ _ _ _ _ _ c.rounds.invariant.goes c.thin.ensures.thinner
+    c.thin.ensures.undo).undo
 
 -- ---- an item is left alone
 
@@ -111,9 +102,8 @@ decide-requires-clause-branch c = c.in-Ok.ensures.branch
 
 pub decide-requires-clause-given : goal.decide-requires-clause-given
 decide-requires-clause-given c =
-    (Goes-thinned c.args.trail.now.records c.args.branch.now c.rounds.trail.records
-    c.thin.new.trail.records c.rounds.branch c.thin.new.branch c.rounds.invariant.goes
-    c.thin.ensures.thinner c.thin.ensures.undo).given
+    (Goes-thinned _ _ _ _ _ _ c.rounds.invariant.goes c.thin.ensures.thinner
+    c.thin.ensures.undo).given
 
 pub decide-requires-clause-live : goal.decide-requires-clause-live
 decide-requires-clause-live c =
@@ -143,11 +133,9 @@ returns-in_err-decide-in-Unit-clause-quiet c e =
 pub returns-in_err-decide-in-Unit-clause-goes_on
     : goal.returns-in_err-decide-in-Unit-clause-goes_on
 returns-in_err-decide-in-Unit-clause-goes_on c =
-    (Goes-then c.args.trail.now.records c.args.branch.now c.thin.new.trail.records
-    c.decide.new.trail.records c.thin.new.branch c.decide.new.self
-    (Goes-thinned c.args.trail.now.records c.args.branch.now c.rounds.trail.records
-    c.thin.new.trail.records c.rounds.branch c.thin.new.branch c.rounds.invariant.goes
-    c.thin.ensures.thinner c.thin.ensures.undo)
+    (Goes-then _ _ _ _ _ _
+    (Goes-thinned _ _ _ _ _ _ c.rounds.invariant.goes c.thin.ensures.thinner
+    c.thin.ensures.undo)
     c.decide.ensures.goes_on c.decide.ensures.given c.decide.ensures.undo).goes_on
 
 pub returns-in_err-decide-in-Unit-clause-given : goal.returns-in_err-decide-in-Unit-clause-given
@@ -155,11 +143,9 @@ returns-in_err-decide-in-Unit-clause-given c = c.decide.ensures.given
 
 pub returns-in_err-decide-in-Unit-clause-undo : goal.returns-in_err-decide-in-Unit-clause-undo
 returns-in_err-decide-in-Unit-clause-undo c =
-    (Goes-then c.args.trail.now.records c.args.branch.now c.thin.new.trail.records
-    c.decide.new.trail.records c.thin.new.branch c.decide.new.self
-    (Goes-thinned c.args.trail.now.records c.args.branch.now c.rounds.trail.records
-    c.thin.new.trail.records c.rounds.branch c.thin.new.branch c.rounds.invariant.goes
-    c.thin.ensures.thinner c.thin.ensures.undo)
+    (Goes-then _ _ _ _ _ _
+    (Goes-thinned _ _ _ _ _ _ c.rounds.invariant.goes c.thin.ensures.thinner
+    c.thin.ensures.undo)
     c.decide.ensures.goes_on c.decide.ensures.given c.decide.ensures.undo).undo
 
 -- ---- another round
@@ -209,11 +195,9 @@ returns-in-Closed-clause-quiet c e = cc
 
 pub returns-in-Closed-clause-goes_on : goal.returns-in-Closed-clause-goes_on
 returns-in-Closed-clause-goes_on c =
-    (Goes-then c.args.trail.now.records c.args.branch.now c.thin.new.trail.records
-    c.decide.new.trail.records c.thin.new.branch c.decide.new.self
-    (Goes-thinned c.args.trail.now.records c.args.branch.now c.rounds.trail.records
-    c.thin.new.trail.records c.rounds.branch c.thin.new.branch c.rounds.invariant.goes
-    c.thin.ensures.thinner c.thin.ensures.undo)
+    (Goes-then _ _ _ _ _ _
+    (Goes-thinned _ _ _ _ _ _ c.rounds.invariant.goes c.thin.ensures.thinner
+    c.thin.ensures.undo)
     c.decide.ensures.goes_on c.decide.ensures.given c.decide.ensures.undo).goes_on
 
 pub returns-in-Closed-clause-given : goal.returns-in-Closed-clause-given
@@ -221,9 +205,7 @@ returns-in-Closed-clause-given c = c.decide.ensures.given
 
 pub returns-in-Closed-clause-undo : goal.returns-in-Closed-clause-undo
 returns-in-Closed-clause-undo c =
-    (Goes-then c.args.trail.now.records c.args.branch.now c.thin.new.trail.records
-    c.decide.new.trail.records c.thin.new.branch c.decide.new.self
-    (Goes-thinned c.args.trail.now.records c.args.branch.now c.rounds.trail.records
-    c.thin.new.trail.records c.rounds.branch c.thin.new.branch c.rounds.invariant.goes
-    c.thin.ensures.thinner c.thin.ensures.undo)
+    (Goes-then _ _ _ _ _ _
+    (Goes-thinned _ _ _ _ _ _ c.rounds.invariant.goes c.thin.ensures.thinner
+    c.thin.ensures.undo)
     c.decide.ensures.goes_on c.decide.ensures.given c.decide.ensures.undo).undo
