@@ -1,7 +1,6 @@
 -- Where each clause is satisfied, all that was expanded is covered.
-use Rattle.std.proofs.Common.{◌≡◌, inl, inr, ℕ, zero, suc, ◌<◌, IsTrue}
+use Rattle.std.proofs.Common.{◌≡◌, inl, inr, ℕ, zero, suc, ◌<◌, IsTrue, arith}
 use Rattle.std.proofs.Common.{List, [], ◌∷◌, Option, Some, None, Any, refl, sym, subst, ◌∙◌}
-use Rattle.std.proofs.Common.{arith}
 use Rattle.std.specs.List.{All, Contains, filter, filter_map, slice_get}
 use Rattle.std.specs.Option.{IsSome, option_map}
 use Rattle.std.proofs.lemmas.List.Elements.{All-cons, All-contains, All-nil}

@@ -1,7 +1,6 @@
 -- What decisions and literals say of an occurrence.
 use Rattle.std.proofs.Common.{◌≡◌, ◌==◌, ◌⊎◌, inl, inr, ℕ, Bool, true, false, List, []}
-use Rattle.std.proofs.Common.{◌∷◌, Option, Some, None, refl, ap, ap₂, sym, subst, ◌∙◌}
-use Rattle.std.proofs.Common.{if◌then◌else◌}
+use Rattle.std.proofs.Common.{◌∷◌, if◌then◌else◌, Option, Some, None, refl, ap, ap₂, sym, subst, ◌∙◌}
 use Rattle.std.specs.List.{All, Contains, slice_get}
 use Rattle.std.specs.Option.{IsSome, IsSomeAnd, option_and_then, option_map}
 use Rattle.std.proofs.lemmas.Bool.Decides.{Decides-eqb}

@@ -1,5 +1,5 @@
 -- A formula is the first of its occurrences.
-use Rattle.std.proofs.Common.{◌≡◌, List, Some, ap, subst, ◌∙◌}
+use Rattle.std.proofs.Common.{◌≡◌, ℕ, List, Some, ap, subst, ◌∙◌}
 use Rattle.std.specs.List.{slice_get}
 use Rattle.std.specs.Option.{option_and_then}
 use denote.Hole.Carrier.{roll}
@@ -10,7 +10,6 @@ use Rattle.esc_term.specs.declared.formula.Quant.{Quant}
 use Rattle.esc_clause.specs.Occurrences.{formula_at, occurrences_of}
 use Rattle.esc_clause.proofs.OccurrencesLevels as levels
 use Rattle.esc_live.specs.Promises.{whole_at}
-use Rattle.std.proofs.Common.{ℕ}
 
 first_form : (y : Formula-F Formula Quant)
     → slice_get (occurrences_of (roll-Formula y)) 0 ≡ Some (roll-Formula y)

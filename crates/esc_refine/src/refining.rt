@@ -11,7 +11,6 @@ ghost use Rattle.esc_live.specs.View.{judge_on};
 ghost use Rattle.esc_refine.specs.Refining.{IsQuiet, SplitsAt};
 
 use crate::thinning::thin;
-use esc_book::book_laws;
 use esc_clause::{Occurrence, Refined, expansion_laws};
 use esc_egraph::State;
 use esc_live::{LiveBranch, LiveRec};

@@ -5,8 +5,7 @@ use Rattle.esc_live.specs.Calls.{Ends, HoldsWithDecision}
 use Rattle.esc_live.specs.Promises.{IsSoundIn}
 use Rattle.esc_refine.specs.ThinningInside.{Tells}
 use Rattle.esc_refine.proofs.Rounds.{Goes-then, Goes-thinned, Round-starts, Stands-decided}
-use Rattle.esc_refine.proofs.Rounds.{Stands-thinned, decided_ends, fewer_left}
-use Rattle.esc_refine.proofs.Rounds.{thin_closed}
+use Rattle.esc_refine.proofs.Rounds.{Stands-thinned, decided_ends, fewer_left, thin_closed}
 use Rattle.esc_refine.proofs.refining.refine.Goals as goal
 
 pub rounds-init : goal.rounds-init
