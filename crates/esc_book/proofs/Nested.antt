@@ -1,6 +1,6 @@
 -- Where the parts of a formula stand in its table.
-use Rattle.std.proofs.Common.{◌≡◌, ◌⊎◌, inl, inr, ℕ, suc, zero, ◌+◌, ◌<◌, List, [], ◌∷◌, ◌++◌, Some}
-use Rattle.std.proofs.Common.{None, Option, drop, length, map, refl, ap, sym, subst, ◌∙◌, arith}
+use Rattle.std.proofs.Common.{◌≡◌, ◌⊎◌, inl, inr, ℕ, suc, zero, ◌+◌, List, [], ◌∷◌, ◌++◌, Some}
+use Rattle.std.proofs.Common.{drop, length, map, refl, ap, sym, subst, ◌∙◌}
 use Rattle.std.proofs.Common.{append_assoc}
 use Rattle.std.proofs.lemmas.List.{drop-drop, drop_at, append-nil}
 use Rattle.std.proofs.lemmas.List.Concat.{flat_map-append}
@@ -127,7 +127,7 @@ stands_at (Formula-F.And es) =
       whole = whole_all es;
       owned = headed (formula.And fs) _ _ (occurrences.occurrences_of-And fs)
           (heads.heads_of-And fs)
-      (ap pairs_form (out-roll-Formula (Formula-F.And fs))) (owned_all es);
+          (ap pairs_form (out-roll-Formula (Formula-F.And fs))) (owned_all es);
     }
 stands_at (Formula-F.Or es) =
     let fs = map (λ e. e.0) es in
@@ -137,7 +137,7 @@ stands_at (Formula-F.Or es) =
       whole = whole_all es;
       owned = headed (formula.Or fs) _ _ (occurrences.occurrences_of-Or fs)
           (heads.heads_of-Or fs)
-      (ap pairs_form (out-roll-Formula (Formula-F.Or fs))) (owned_all es);
+          (ap pairs_form (out-roll-Formula (Formula-F.Or fs))) (owned_all es);
     }
 stands_at (Formula-F.Not e) = record {
   parts = _;

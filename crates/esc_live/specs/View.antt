@@ -8,7 +8,7 @@ use Rattle.esc_clause.specs.declared.truth.Truth.{Truth}
 use Rattle.esc_clause.specs.declared.truth.Truth.TheVariants.{Open}
 use Rattle.esc_book.specs.Book.{is_live, items_of, live_formulas}
 use Rattle.esc_book.specs.Judging.{truth_at}
-use Rattle.esc_sharing.specs.Nodes.{classes_in}
+use Rattle.esc_node_terms.specs.Nodes.{classes_in}
 use Rattle.esc_live.specs.declared.branch.LiveBranch.{LiveBranch}
 
 -- the formulas of all facts, and those of the facts that are live, each in order
