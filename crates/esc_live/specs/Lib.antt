@@ -1,0 +1,6 @@
+pub mod Calls
+pub mod Expanded
+pub mod Laws
+pub mod LiveUndo
+pub mod Promises
+pub mod View

@@ -1,0 +1,87 @@
+//! Facts become live, and occurrences are decided.
+
+ghost use Rattle.std.specs.Prelude.{◌≡◌, ◌<◌, [], ◌∷◌, ◌++◌, length, IsTrue, OnErr, OnOk, Ok};
+ghost use Rattle.std.specs.List.{Contains};
+ghost use Rattle.esc_book.specs.Book.{IsLiveOccurrence};
+ghost use Rattle.esc_egraph.specs.declared.state.State.TheVariants as state;
+ghost use Rattle.esc_term.specs.Formula.{is_closed};
+ghost use Rattle.esc_term.specs.Model.{Model};
+ghost use Rattle.esc_trail.specs.Undo.{Notes};
+ghost use Rattle.esc_live.specs.Calls.{AddsLiterals, Ends, GoesLiveOrNothing, GoesOn};
+ghost use Rattle.esc_live.specs.Calls.{HoldsWithDecision, HoldsWithFact};
+ghost use Rattle.esc_live.specs.LiveUndo.{live_undo};
+ghost use Rattle.esc_live.specs.Promises.{IsBranch, IsGiven, IsSoundIn, IsUndecided};
+ghost use Rattle.esc_live.specs.View.{logged};
+
+use crate::branch::LiveBranch;
+use crate::record::LiveRec;
+use esc_clause::Occurrence;
+use esc_egraph::State;
+use esc_simplex::Stop;
+use esc_term::Formula;
+use esc_trail::Trail;
+use std::alloc::AllocError;
+
+impl LiveBranch {
+    /// Puts a closed formula at the end of the log. It fails only where memory is wanting, and then
+    /// leaves all as it was.
+    pub fn log(&mut self, formula: Formula) -> Result<(), AllocError>
+        requires closed { IsTrue (is_closed formula) }
+        ensures ok { OnOk result (logged self.new ≡ logged self.old ++ formula ∷ []) }
+        ensures err { OnErr result (self.new ≡ self.old) }
+        ensures rest { self.new
+            ≡ record self.old { book = record self.old.book { logged = logged self.new } } }
+        ensures branch { IsBranch self.old → IsBranch self.new }
+        ensures given { IsGiven self.old → IsGiven self.new }
+        ensures sound { IsBranch self.old → (M : Model) → IsSoundIn M self.old
+            → IsSoundIn M self.new }
+    {
+        Err(AllocError)
+    }
+
+    /// The fact at a place of the log becomes live: its terms come in play, and it is asserted.
+    /// Closed only where no model makes it hold with what was asserted.
+    pub fn assert(&mut self, place: usize, trail: &mut Trail<LiveRec>) -> Result<State, Stop>
+        requires branch { IsBranch self.old }
+        requires given { IsGiven self.old }
+        requires there { place < length (logged self.old) }
+        requires new { Contains self.old.book.live place → ⊥ }
+        ensures ends { Ends self.new (HoldsWithFact self.old place) result }
+        ensures live { result ≡ Ok state.Open
+            → self.new.book.live ≡ self.old.book.live ++ place ∷ [] }
+        ensures stop { GoesLiveOrNothing self.old self.new place }
+        ensures literals { AddsLiterals self.old self.new }
+        ensures logged { logged self.new ≡ logged self.old }
+        ensures decisions { self.new.clauses.decisions ≡ self.old.clauses.decisions }
+        ensures limit { self.new.sharing.theory.limit ≡ self.old.sharing.theory.limit }
+        ensures given { IsGiven self.new }
+        ensures undo { Notes live_undo (λ rec. rec) trail.old.records trail.new.records
+            self.old self.new }
+    {
+        Err(Stop::Memory)
+    }
+
+    /// Decides an occurrence of a live fact that was not decided: that it has its sign, or the
+    /// contrary, which is asserted. Closed only where no model makes it so with what was asserted.
+    pub fn decide(
+        &mut self,
+        at: Occurrence,
+        holds: bool,
+        trail: &mut Trail<LiveRec>,
+    ) -> Result<State, Stop>
+        requires branch { IsBranch self.old }
+        requires given { IsGiven self.old }
+        requires live { IsLiveOccurrence self.old.book at }
+        requires undecided { IsUndecided self.old at }
+        ensures ends { Ends self.new (HoldsWithDecision self.old (record { at = at; holds = holds }))
+            result }
+        ensures decided { OnOk result (self.new.clauses.decisions
+            ≡ self.old.clauses.decisions ++ record { at = at; holds = holds } ∷ []) }
+        ensures goes_on { GoesOn self.old self.new }
+        ensures given { IsGiven self.new }
+        ensures undo { Notes live_undo (λ rec. rec) trail.old.records trail.new.records
+            self.old self.new }
+    {
+        Err(Stop::Memory)
+    }
+}

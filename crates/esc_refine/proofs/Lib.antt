@@ -1,0 +1,11 @@
+mod Done
+mod Judged
+mod Lightened
+mod Parts
+mod Rounds
+mod Splits
+mod Thins
+mod Told
+mod Truths
+mod Waiting
+mod Wholes

@@ -1,0 +1,3 @@
+pub mod Refining
+pub mod RoundsInside
+pub mod ThinningInside
