@@ -1,0 +1,11 @@
+pub mod AddedClauses
+pub mod ClausesExpanded
+pub mod Coarser
+pub mod CoveredLiteral
+pub mod Judged
+pub mod LiteralOn
+pub mod LiveAtoms
+pub mod LiveNotes
+pub mod Parts
+pub mod Reaching
+pub mod StaysExpanded
