@@ -1,8 +1,8 @@
 -- A literal was asserted, and the sharing got it: what holds then.
 use Rattle.std.proofs.Common.{◌≡◌, ◌⊎◌, inl, inr, Bool, true, false, not, List, [], ◌∷◌, ◌++◌, Some, map}
 use Rattle.std.proofs.Common.{Option, None, refl, ap, sym, subst, ◌∙◌}
-use Rattle.std.specs.Prelude.{IsTrue, Ok, Err, Result, cons_option}
-use Rattle.std.specs.List.{All, Contains, filter_map, flat_map}
+use Rattle.std.specs.Prelude.{IsTrue, Ok, Err, Result}
+use Rattle.std.specs.List.{All, Contains, cons_option, filter_map, flat_map}
 use Rattle.std.specs.Option.{IsSomeAnd}
 use Rattle.std.proofs.lemmas.List.{append-nil}
 use Rattle.std.proofs.lemmas.List.Elements.{All-contains}
@@ -93,7 +93,7 @@ plain_literals s item h =
 -- ---- a literal
 
 module _ (v : LiveBranch) (standing : IsStanding v) (given : IsGiven v) (at : Occurrence)
-    (live : IsLiveOccurrence v.book at) (open : judge_on v at ≡ truth.Open) (item : Item)
+    (live : IsLiveOccurrence v.book at) (unsaid : judge_on v at ≡ truth.Open) (item : Item)
     (there : item_at (logged v) at ≡ Some item)
     (form : is_literal_form (out-Formula item.formula) item.positive ≡ true)
     (sides : All (Contains (terms_in v.sharing.graph)) (item_sides item))
@@ -185,6 +185,31 @@ module _ (v : LiveBranch) (standing : IsStanding v) (given : IsGiven v) (at : Oc
       → AreSoIn M v (at ∷ []) → ⊥
   closed_literal none M so = none M (shared_hold M (literals_hold M so))
 
+  -- ---- it stops
+
+  asks : flat_map asked (literals_on w)
+      ≡ flat_map asked (items_in (shared_in v.sharing)) ++ asked item
+  asks = ap (flat_map asked) literals_are
+      ∙ (flat_map-push asked (literals_on v) item
+      ∙ ap (λ gaps. gaps ++ asked item) standing.shared.asks)
+
+  pub stops_literal : (why : Stop) → StopsSharing v.sharing t item why
+      → StopsAsserting v w (at ∷ []) why
+  stops_literal why stops =
+      let stopped = stops (logged v) (literals_on w) given.given
+      (logged_literals v (literals_on w) literals_of) asks in
+      record {
+        stopped = record {
+          book = book;
+          occur = occur;
+          stopped = stopped;
+          told = All-weaker (AreEqualInModels (literals_in (shared_in t)))
+              (AreEqualInModels (literals_on w)) (λ pair h M all. h M (shared_hold M all))
+              (told_in (shared_in t)) stopped.underway.follow;
+        };
+        sound = literals_hold;
+      }
+
   -- ---- it stays open
 
   module _ (shared : IsShared (shared_in t)) where
@@ -203,7 +228,7 @@ module _ (v : LiveBranch) (standing : IsStanding v) (given : IsGiven v) (at : Oc
     -- the contrary is no literal
     no_contrary : Contains (literals_on v) (contrary_item item) → ⊥
     no_contrary h =
-        open_contrary v standing.shared at live item there open
+        open_contrary v standing.shared at live item there unsaid
         (literal_covered (literals_on v) (play_of (live_on v)) (classes_on v)
         (least_on v standing.shared) standing.shared.consistent (contrary_item item)
         (All-contains (λ (other : Item). IsTrue (is_literal_form (out-Formula other.formula)
@@ -251,9 +276,7 @@ module _ (v : LiveBranch) (standing : IsStanding v) (given : IsGiven v) (at : Oc
         shared = shared;
         play = play;
         asserted = alike;
-        asks = ap (flat_map asked) literals_are
-            ∙ (flat_map-push asked (literals_on v) item
-            ∙ (ap (λ gaps. gaps ++ asked item) standing.shared.asks ∙ sym shares.asks));
+        asks = asks ∙ sym shares.asks;
         consistent = consistent;
         literals_are = literals_of;
         occur = occur;
@@ -282,4 +305,67 @@ module _ (v : LiveBranch) (standing : IsStanding v) (given : IsGiven v) (at : Oc
         decisions = so.branch.decisions;
         clauses = so.branch.clauses;
       };
+    }
+
+-- ---- how it ends
+
+module _ (v : LiveBranch) (standing : IsStanding v) (given : IsGiven v) (at : Occurrence)
+    (live : IsLiveOccurrence v.book at) (unsaid : judge_on v at ≡ truth.Open)
+    (literal : IsLiteralAt (logged v) at) (book_stays : BookStays) where
+  form_at : (item : Item) → item_at (logged v) at ≡ Some item
+      → is_literal_form (out-Formula item.formula) item.positive ≡ true
+  form_at item there = subst (λ o. IsSomeAnd o (λ i. IsTrue
+      (is_literal_form (out-Formula i.formula) i.positive))) there literal
+
+  abbrev pub pushed : LiveBranch
+  pushed = record v { literals = v.literals ++ at ∷ [] }
+
+  ends_at : (t : Sharing Simplex) (result : Result State Stop) (item : Item)
+      → item_at (logged v) at ≡ Some item
+      → All (Contains (terms_in v.sharing.graph)) (item_sides item)
+      → ShareEnds v.sharing t item result
+      → Asserts v (record v { literals = v.literals ++ at ∷ []; sharing = t }) (at ∷ []) result
+  ends_at t (Ok state.Open) item there sides ends =
+      reaches_literal v standing given at live unsaid item there (form_at item there) sides
+      book_stays t ends.0 ends.1
+  ends_at t (Ok state.Closed) item there sides ends =
+      closed_literal v standing given at live unsaid item there (form_at item there) sides
+      book_stays t ends.0 ends.1
+  ends_at t (Err (stop.Spill j)) item there sides ends =
+      stops_literal v standing given at live unsaid item there (form_at item there) sides
+      book_stays t ends.shares (stop.Spill j) ends.stops
+  ends_at t (Err (stop.Form u)) item there sides ends =
+      stops_literal v standing given at live unsaid item there (form_at item there) sides
+      book_stays t ends.shares (stop.Form u) ends.stops
+  ends_at t (Err (stop.Pivots j)) item there sides ends =
+      stops_literal v standing given at live unsaid item there (form_at item there) sides
+      book_stays t ends.shares (stop.Pivots j) ends.stops
+  ends_at t (Err stop.Memory) item there sides ends = tt
+
+  module _ (p w : LiveBranch) (is : p ≡ pushed) (rest : w ≡ record p { sharing = w.sharing }) where
+    whole : w ≡ record v { literals = v.literals ++ at ∷ []; sharing = w.sharing }
+    whole = rest ∙ ap (λ (x : LiveBranch). record x { sharing = w.sharing }) is
+
+    pub asserts_literal : (result : Result State Stop) → Comes p w at result
+        → Asserts v w (at ∷ []) result
+    asserts_literal result comes =
+        let here : Comes pushed w at result = subst (λ x. Comes x w at result) is comes in
+        subst (λ x. Asserts v x (at ∷ []) result) (sym whole)
+        (ends_at w.sharing result here.item here.there here.sides here.ends)
+
+    pub steps_literal : IsSimplex w.sharing.theory
+        → StaysGiven p.sharing.theory w.sharing.theory
+        → w.sharing.theory.limit ≡ p.sharing.theory.limit → Steps v w
+    steps_literal sound stays limit = record {
+      book = ap (λ (x : LiveBranch). x.book) whole;
+      literals = (at ∷ [], ap (λ (x : LiveBranch). x.literals) whole);
+      decisions = ap (λ (x : LiveBranch). x.clauses.decisions) whole;
+      given = record {
+        sound = sound;
+        given = subst (λ fs. IsGivenBy fs w.sharing.theory)
+            (sym (ap (λ (x : LiveBranch). x.book.logged) whole))
+            (stays (logged v) (subst (λ (x : LiveBranch). IsGivenBy (logged v) x.sharing.theory)
+            (sym is) given.given));
+      };
+      limit = limit ∙ ap (λ (x : LiveBranch). x.sharing.theory.limit) is;
     }

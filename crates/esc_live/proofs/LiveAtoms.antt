@@ -1,8 +1,8 @@
 -- A literal of a live fact is an atom of the live formulas, and these are formulas of the log.
 use Rattle.std.proofs.Common.{◌≡◌, ◌⊎◌, inl, inr, ℕ, zero, suc, Bool, true, false, List, [], ◌∷◌, ◌++◌, map}
 use Rattle.std.proofs.Common.{Option, Some, None, refl, ap, sym, subst, ◌∙◌}
-use Rattle.std.specs.Prelude.{cons_option, slice_get}
-use Rattle.std.specs.List.{All, Contains, filter_map, flat_map}
+use Rattle.std.specs.Prelude.{slice_get}
+use Rattle.std.specs.List.{All, Contains, cons_option, filter_map, flat_map}
 use Rattle.std.specs.Option.{option_and_then, option_map}
 use Rattle.std.proofs.lemmas.List.Elements.{All-weaker, Contains-append_cases}
 use Rattle.std.proofs.lemmas.List.Elements.{Contains-append_left, Contains-append_right}
@@ -29,7 +29,7 @@ use Rattle.esc_live.specs.declared.branch.LiveBranch.{LiveBranch}
 
 -- ---- lists
 
-got_there : {X : Type 0} (xs : List X) (k : ℕ) (x : X) → slice_get xs k ≡ Some x → Contains xs x
+pub got_there : {X : Type 0} (xs : List X) (k : ℕ) (x : X) → slice_get xs k ≡ Some x → Contains xs x
 got_there [] k x e = absurd (cc)
 got_there (y ∷ ys) zero x e = subst (Contains (y ∷ ys)) (cc) (Contains-here y ys)
 got_there (y ∷ ys) (suc k) x e = Contains-later y ys x (got_there ys k x e)
@@ -53,17 +53,20 @@ Contains-filter_map {X} {Y} h (w ∷ ws) x y there is =
 Contains-of_filter_map : {X Y : Type 0} (h : X → Option Y) (xs : List X) (y : Y)
     → Contains (filter_map h xs) y → (x : X) × Contains xs x × (h x ≡ Some y)
 Contains-of_filter_map {X} {Y} h [] y there = absurd (Contains-none y there)
-Contains-of_filter_map {X} {Y} h (w ∷ ws) y there = go (h w) refl there
+Contains-of_filter_map {X} {Y} h (w ∷ ws) y there =
+    go (h w) refl (λ inside. Contains-of_filter_map h ws y inside) there
   where
-    go : (o : Option Y) → h w ≡ o → Contains (cons_option o (filter_map h ws)) y
+    go : (o : Option Y) → h w ≡ o
+        → (Contains (filter_map h ws) y → (x : X) × Contains ws x × (h x ≡ Some y))
+        → Contains (cons_option o (filter_map h ws)) y
         → (x : X) × Contains (w ∷ ws) x × (h x ≡ Some y)
-    go None is inside =
-        let found = Contains-of_filter_map h ws y inside in
+    go None is among inside =
+        let found = among inside in
         (found.0, Contains-later w ws found.0 found.1, found.2)
-    go (Some z) is inside = elim (Contains-cases z (filter_map h ws) y inside) [
+    go (Some z) is among inside = elim (Contains-cases z (filter_map h ws) y inside) [
       | inl same ↦ (w, Contains-here w ws, is ∙ ap (λ q. Some q) same)
       | inr later ↦
-          let found = Contains-of_filter_map h ws y later in
+          let found = among later in
           (found.0, Contains-later w ws found.0 found.1, found.2)
     ]
 

@@ -77,6 +77,7 @@ impl LiveBranch {
         ensures comes { Comes self.old self.new at result }
         ensures given { StaysGiven self.old.sharing.theory self.new.sharing.theory }
         ensures sound { IsSimplex self.new.sharing.theory }
+        ensures limit { self.new.sharing.theory.limit ≡ self.old.sharing.theory.limit }
         ensures undo { Notes live_undo (λ rec. rec) trail.old.records trail.new.records
             self.old self.new }
     {

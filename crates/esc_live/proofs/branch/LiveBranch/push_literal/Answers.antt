@@ -2,13 +2,12 @@ use Rattle.std.proofs.Common.{rules, arith}
 use Rattle.std.proofs.lemmas.Grind.{common_steps}
 use Rattle.esc_live.proofs.LiveNotes.{literal_notes, notes_same}
 use Rattle.esc_live.proofs.Parts.{parts_are}
-use Rattle.esc_live.proofs.Coarser.{goes_further}
-use Rattle.esc_live.proofs.StaysExpanded.{expanded_stays}
-use Rattle.esc_live.proofs.Reaching.{err_next}
-use Rattle.esc_live.proofs.Judged.{reaches_yes}
-use Rattle.esc_live.proofs.CoveredLiteral.{literal_covered}
 use Rattle.esc_live.proofs.ClausesExpanded.{reaches_clauses}
-use Rattle.esc_live.proofs.LiteralOn.{reaches_literal}
+use Rattle.esc_live.proofs.LiteralOn.{asserts_literal}
+use Rattle.esc_live.proofs.SharedLiteral.{comes_quantified}
+use Rattle.esc_live.proofs.FactLive.{fact_ends}
+use Rattle.esc_live.proofs.Deciding.{decide_ends}
+use Rattle.esc_live.proofs.BackAt.{back_is_branch}
 use Rattle.esc_live.proofs.branch.LiveBranch.push_literal.Goals as goal
 
 pub returns-in_err-reserve-clause-undo : goal.returns-in_err-reserve-clause-undo
