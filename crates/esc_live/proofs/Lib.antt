@@ -11,6 +11,7 @@ pub mod LiteralOn
 pub mod LiveAtoms
 pub mod LiveNotes
 pub mod LogGrows
+pub mod OccurrenceSteps
 pub mod Parts
 pub mod Reaching
 pub mod Rewound
