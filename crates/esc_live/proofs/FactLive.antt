@@ -1,13 +1,15 @@
 -- The terms of a fact came in play, and it becomes live.
 use Rattle.std.proofs.Common.{◌≡◌, ◌⊎◌, inl, inr, ℕ, ◌<◌, Bool, true, List, [], ◌∷◌, ◌++◌, Option}
-use Rattle.std.proofs.Common.{Some, None, length, refl, ap, ap₂, sym, subst, ◌∙◌, append_assoc}
-use Rattle.std.specs.Prelude.{Result, Ok, Err, IfErr, slice_get}
+use Rattle.std.proofs.Common.{Some, None, get_or, length, refl, ap, ap₂, sym, subst, ◌∙◌, append_assoc}
+use Rattle.std.specs.Prelude.{IsTrue, Result, Ok, Err, IfErr, slice_get}
 use Rattle.std.specs.List.{All, Contains, cons_option, filter_map, flat_map, fold}
 use Rattle.std.specs.Option.{IsSome, option_and_then}
 use Rattle.std.proofs.lemmas.List.{append-nil}
+use Rattle.std.proofs.lemmas.Option.{slice_get-get_or}
 use Rattle.std.proofs.lemmas.List.Elements.{All-cons, All-contains, All-nil}
 use Rattle.std.proofs.lemmas.List.Elements.{All-weaker, Contains-append_cases}
-use Rattle.std.proofs.lemmas.List.Elements.{Contains-append_left, Contains-push, filter_map-append}
+use Rattle.std.proofs.lemmas.List.Elements.{Contains-append_left, Contains-get_or}
+use Rattle.std.proofs.lemmas.List.Elements.{Contains-push, filter_map-append}
 use Rattle.std.proofs.lemmas.List.Sums.{fold-append}
 use denote.Hole.Carrier.{roll}
 use Rattle.esc_term.specs.declared.term.Term.{Term}
@@ -319,3 +321,90 @@ module _ (v : LiveBranch) (is : IsBranch v) (place : ℕ) (f : Formula)
       ends_by u w steps (whole_at place ∷ []) (HoldsWithFact v place) so_u decisions_u facts_u
       (λ d h. inl (expanded_u (decided_as d) (All-contains (λ (x : Decision).
       WasExpanded v (decided_as x)) v.clauses.decisions d is.decided h))) result
+
+-- ---- the fact at a place
+
+module _ (fs gs : List Formula) (same : gs ≡ fs) (place : ℕ) (d : Formula)
+    (within : place < length fs) where
+  pub formula_is : (f : Formula) → slice_get fs place ≡ Some f → get_or gs place d ≡ f
+  formula_is f there =
+      ap (λ (xs : List Formula). get_or xs place d) same
+      ∙ some_injective (sym (slice_get-get_or fs place d within) ∙ there)
+    where
+      some_injective : Some (get_or fs place d) ≡ Some f → get_or fs place d ≡ f
+      some_injective e = cc
+
+  pub formula_there : Contains fs (get_or gs place d)
+  formula_there = subst (λ (xs : List Formula). Contains fs (get_or xs place d)) (sym same)
+      (Contains-get_or fs place d within)
+
+  pub formula_closed : All (λ f. IsTrue (term_formula.is_closed f)) fs
+      → IsTrue (term_formula.is_closed (get_or gs place d))
+  formula_closed all = subst (λ (xs : List Formula).
+      IsTrue (term_formula.is_closed (get_or xs place d))) (sym same) (all place d within)
+
+-- the formula there is the one
+pub brings_there : (v : LiveBranch) → IsBranch v → IsGiven v → BookStays → (t : Sharing Simplex)
+    (place : ℕ) (g : Formula) → Contains (logged v) g
+    → ((f : Formula) → slice_get (logged v) place ≡ Some f → g ≡ f)
+    → (result : Result State Stop) → PlayEnds (shared_in v.sharing) (shared_in t) g result
+    → IfErr result (UnlessMemory (StopsPlay v.sharing t g))
+    → (f : Formula) → slice_get (logged v) place ≡ Some f
+    → Brings v (record v { sharing = t }) f result
+brings_there v is given law t place g among same result ends stops f there =
+    subst (λ h. Brings v (record v { sharing = t }) h result) (same f there)
+    (brings_by v is given law t g among result ends stops)
+
+-- how it ends where the fact did not become live
+pub brought_ends : (v w : LiveBranch) (f : Formula) (place : ℕ) (result : Result State Stop)
+    → (result ≡ Ok Open → ⊥) → Brings v w f result → Ends w (HoldsWithFact v place) result
+brought_ends v w f place (Ok Open) not_open brings = absurd (not_open refl)
+brought_ends v w f place (Ok Closed) not_open none = λ M so. none M so.0
+brought_ends v w f place (Err stop.Memory) not_open h = tt
+brought_ends v w f place (Err (stop.Spill j)) not_open h = (h.0, λ M so. h.1 M so.0)
+brought_ends v w f place (Err (stop.Form u)) not_open h = (h.0, λ M so. h.1 M so.0)
+brought_ends v w f place (Err (stop.Pivots j)) not_open h = (h.0, λ M so. h.1 M so.0)
+
+-- ---- from the calls
+
+-- all that is needed of the two calls that make the fact live
+module _ (v m u : LiveBranch) (is : IsBranch v) (place : ℕ) (f : Formula)
+    (there : slice_get (logged v) place ≡ Some f)
+    (brought : m ≡ record v { sharing = m.sharing })
+    (ends : PlayEnds (shared_in v.sharing) (shared_in m.sharing) f (Ok Open))
+    (went : u ≡ record m { book = u.book }) (log_is : logged u ≡ logged m)
+    (live_went : u.book.live ≡ m.book.live ++ place ∷ [])
+    (book : IsBook u.sharing.graph u.book) where
+  abbrev made_live : LiveBranch
+  made_live = record v {
+    sharing = m.sharing;
+    book = record v.book { live = v.book.live ++ place ∷ []; pages = u.book.pages };
+  }
+
+  book_went : u.book ≡ record v.book { live = v.book.live ++ place ∷ []; pages = u.book.pages }
+  book_went =
+      ap (λ fs. let x : BookView = record u.book { logged = fs } in x)
+      (log_is ∙ ap (λ (x : LiveBranch). x.book.logged) brought)
+      ∙ ap (λ ls. let x : BookView = record u.book { logged = v.book.logged; live = ls } in x)
+      (live_went ∙ ap (λ (x : LiveBranch). x.book.live ++ place ∷ []) brought)
+
+  branch_went : u ≡ made_live
+  branch_went =
+      went ∙ (ap (λ (x : LiveBranch). record x { book = u.book }) brought
+      ∙ ap (λ b. let x : LiveBranch = record v { sharing = m.sharing; book = b } in x) book_went)
+
+  pub standing_went : IsStanding u
+  standing_went = subst IsStanding (sym branch_went)
+      (standing_u v is place f there m.sharing u.book.pages ends
+      (subst (λ (x : LiveBranch). IsBook x.sharing.graph x.book) branch_went book))
+
+  pub whole_went : IsLiveOccurrence u.book (whole_at place)
+  whole_went = subst (λ (b : BookView). IsLiveOccurrence b (whole_at place)) (sym book_went)
+      (live_whole v is place f there m.sharing u.book.pages ends)
+
+  pub fact_went : (w : LiveBranch) → Steps u w → (result : Result State Stop)
+      → Asserts u w (whole_at place ∷ []) result → Ends w (HoldsWithFact v place) result
+  fact_went w steps result asserts =
+      fact_ends v is place f there m.sharing u.book.pages ends w
+      (subst (λ x. Steps x w) branch_went steps) result
+      (subst (λ x. Asserts x w (whole_at place ∷ []) result) branch_went asserts)

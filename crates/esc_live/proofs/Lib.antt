@@ -14,6 +14,7 @@ pub mod LogGrows
 pub mod OccurrenceSteps
 pub mod Parts
 pub mod Reaching
+pub mod ReadyJudge
 pub mod Rewound
 pub mod SharedLiteral
 pub mod StaysExpanded

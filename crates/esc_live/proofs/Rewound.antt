@@ -25,6 +25,7 @@ use Rattle.esc_live.specs.LiveUndo.{live_back, live_undo}
 use Rattle.esc_live.specs.Promises.{IsGiven}
 use Rattle.esc_live.specs.declared.branch.LiveBranch.{LiveBranch}
 use Rattle.esc_live.specs.declared.record.LiveRec.{LiveRec}
+use Rattle.esc_live.proofs.LiveNotes.{LiveNotes}
 use Rattle.esc_live.specs.declared.record.LiveRec.TheVariants.{Shared, Clauses, Book, Literal}
 
 abbrev number_for : Simplex → ℕ × ℕ → ℕ × Term
@@ -91,3 +92,26 @@ rewound_is_given v (rec ∷ recs) can given =
       log = last.log ∙ earlier.log;
       limit = last.limit ∙ earlier.limit;
     }
+
+-- ---- the limit alone
+
+one_limit : (v : LiveBranch) (rec : LiveRec)
+    → (live_back v rec).sharing.theory.limit ≡ v.sharing.theory.limit
+one_limit v (Shared (part.Nodes rec)) = refl
+one_limit v (Shared (part.Groups rec)) = refl
+one_limit v (Shared (part.Lists Asserted)) = refl
+one_limit v (Shared (part.Lists Told)) = refl
+one_limit v (Shared (part.Theory rec)) = limit_back v.sharing.theory rec
+one_limit v (Clauses rec) = refl
+one_limit v (Book book.Live) = refl
+one_limit v Literal = refl
+
+all_limit : (v : LiveBranch) (recs : List LiveRec)
+    → (rewind live_undo v recs).sharing.theory.limit ≡ v.sharing.theory.limit
+all_limit v [] = refl
+all_limit v (rec ∷ recs) = one_limit (rewind live_undo v recs) rec ∙ all_limit v recs
+
+pub limit_noted : (before after : List LiveRec) (v w : LiveBranch) → LiveNotes before after v w
+    → w.sharing.theory.limit ≡ v.sharing.theory.limit
+limit_noted before after v w notes =
+    sym (all_limit w notes.recs) ∙ notes.undone.sharing.theory.limit

@@ -20,6 +20,7 @@ ghost use Rattle.esc_live.specs.View.{logged};
 
 use crate::branch::LiveBranch;
 use crate::record::LiveRec;
+use esc_book::book_laws;
 use esc_clause::Occurrence;
 use esc_egraph::State;
 use esc_play::put_in_play;
@@ -87,6 +88,7 @@ impl LiveBranch {
         ensures undo { Notes live_undo (λ rec. rec) trail.old.records trail.new.records
             self.old self.new }
     {
+        book_laws();
         let formula = &self.book.formulas().as_slice()[place];
         put_in_play(self.alloc, &mut self.sharing, formula, trail)
     }

@@ -18,7 +18,7 @@ ghost use Rattle.esc_live.specs.View.{judge_on, logged};
 
 use crate::branch::LiveBranch;
 use crate::record::LiveRec;
-use esc_book::Atom;
+use esc_book::{Atom, book_laws};
 use esc_clause::Occurrence;
 use esc_egraph::{Node, State};
 use esc_sharing::Lit;
@@ -43,6 +43,7 @@ impl LiveBranch {
         ensures undo { Notes live_undo (λ rec. rec) trail.old.records trail.new.records
             self.old self.new }
     {
+        book_laws();
         let Ok(()) = self.push_literal(at, trail) else {
             return Err(Stop::Memory);
         };
