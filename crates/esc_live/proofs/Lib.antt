@@ -11,7 +11,9 @@ pub mod LiteralOn
 pub mod LiveAtoms
 pub mod LiveNotes
 pub mod LogGrows
+pub mod LoggedMore
 pub mod OccurrenceSteps
+pub mod OrderNumbers
 pub mod Parts
 pub mod Reaching
 pub mod ReadyJudge
