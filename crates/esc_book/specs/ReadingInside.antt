@@ -1,12 +1,19 @@
 -- How a table is read.
-use Rattle.std.specs.Prelude.{◌≡◌, ℕ, ◌+◌, ◌<◌, List, ◌++◌, drop, length, take, Some, None, slice_get}
+use Rattle.std.specs.Prelude.{◌≡◌, ℕ, ◌+◌, ◌<◌, Bool, true, false, List, [], ◌∷◌, ◌++◌, drop}
+use Rattle.std.specs.Prelude.{length, take, Option, Some, None, slice_get}
 use Rattle.std.specs.List.{flat_map}
 use Rattle.esc_term.specs.declared.formula.Formula.{Formula}
 use Rattle.esc_term.specs.declared.formula.Formula.TheVariants as formula
-use Rattle.esc_clause.specs.Occurrences.{occurrences_of}
+use Rattle.esc_term.specs.declared.formula.Formula.TheViews.{out-Formula}
+use Rattle.esc_clause.specs.Expansion.{AllOf, Expansion, Never, OneOfEach}
+use Rattle.esc_clause.specs.Occurrences.{occurrences_of, size_of}
+use Rattle.esc_clause.specs.declared.occurrence.Occurrence.{Occurrence}
 use Rattle.esc_egraph.specs.Graph.{Graph}
 use Rattle.esc_sharing.specs.Nodes.{node_count, node_term}
-use Rattle.esc_book.specs.Book.{Page, heads_of, own}
+use Rattle.esc_book.specs.Atom.{is_atom_form}
+use Rattle.esc_book.specs.Book.{IsPage, Page, heads_of, own}
+use Rattle.esc_book.specs.declared.entry.Kind.{Kind}
+use Rattle.esc_book.specs.declared.entry.Kind.TheVariants as kind
 use Rattle.esc_book.specs.declared.page.Place.{Place}
 use Rattle.esc_book.specs.declared.page.Place.TheVariants as place
 
@@ -19,6 +26,27 @@ pub record AreThere (hs : List Formula) (n : ℕ) (parts : List Formula) : Type 
   pub rest : List Formula
   pub is : drop n hs ≡ flat_map heads_of parts ++ rest
 
+-- all of these, or one of them
+abbrev pub expanded_to : Bool → List Occurrence → Expansion
+expanded_to true parts = AllOf parts
+expanded_to false parts = OneOfEach (parts ∷ [])
+
+-- all of nothing, or what cannot be
+abbrev pub settled_as : Bool → Expansion
+settled_as true = AllOf []
+settled_as false = Never
+
+-- the first of two parts and the second, each with its sign
+abbrev pub both_from : ℕ → ℕ → Bool → Bool → Formula → List Occurrence
+both_from fact place left right first =
+    record { fact = fact; place = place; positive = left }
+    ∷ record { fact = fact; place = place + size_of first; positive = right } ∷ []
+
+-- the pair there, if there is one
+abbrev pub pair_place : Option (ℕ × ℕ) → Place
+pair_place (Some pair) = place.Pair pair.0 pair.1
+pair_place None = place.Nowhere
+
 -- the entry there is of a formula that has its occurrence at the place, or the equation of two
 -- nodes' terms stands there, or nothing
 abbrev pub IsLocated : Graph → Formula → Page → ℕ → Place → Type 0
@@ -29,3 +57,19 @@ IsLocated g f page at (place.Pair a b) =
     (slice_get (occurrences_of f) at ≡ Some (formula.Eq (node_term g a) (node_term g b)))
     × (a < node_count g) × (b < node_count g)
 IsLocated g f page at place.Nowhere = slice_get (occurrences_of f) at ≡ None
+
+-- the kind is one of atoms
+abbrev pub IsAtomKind : Kind → Type 0
+IsAtomKind (kind.Equation a b) = Unit {0}
+IsAtomKind (kind.Order a b) = Unit {0}
+IsAtomKind (kind.Distinction nodes) = Unit {0}
+IsAtomKind (kind.Quantified f) = Unit {0}
+IsAtomKind kind = ⊥
+
+-- the entry at a place of the table is that of an atom
+pub record IsAtomEntry (g : Graph) (page : Page) (i : ℕ) : Type 0 where
+  pub whole : Formula
+  pub is_page : IsPage g whole page
+  pub atom : Formula
+  pub there : slice_get (heads_of whole) i ≡ Some atom
+  pub is_atom : is_atom_form (out-Formula atom) ≡ true
