@@ -1,11 +1,12 @@
 -- An occurrence is decided, and then asserted.
 use Rattle.std.proofs.Common.{◌≡◌, ◌⊎◌, inl, inr, ℕ, suc, ◌<◌, List, [], ◌∷◌, ◌++◌, length, refl, ap}
 use Rattle.std.proofs.Common.{sym, subst, ◌∙◌, arith}
-use Rattle.std.specs.Prelude.{Result, false}
+use Rattle.std.specs.Prelude.{Result, Ok, Err, OnOk, false}
 use Rattle.std.specs.List.{All, AllPairs, Contains}
 use Rattle.std.proofs.lemmas.List.Elements.{All-cons, All-contains, All-head, All-nil}
 use Rattle.std.proofs.lemmas.List.Elements.{All-push, All-tail}
 use Rattle.std.proofs.lemmas.List.Elements.{All-weaker, Contains-append_cases}
+use Rattle.std.proofs.lemmas.List.{append-nil}
 use Rattle.std.proofs.lemmas.List.Kept.{AllPairs-cons}
 use Rattle.esc_term.specs.Model.{Model}
 use Rattle.esc_term.proofs.Members.{Contains-cases, Contains-here, Contains-none}
@@ -142,3 +143,16 @@ module _ (v : LiveBranch) (is : IsBranch v) (given : IsGiven v) (d : Decision)
 
     pub decide_decided : w.clauses.decisions ≡ v.clauses.decisions ++ d ∷ []
     decide_decided = steps.decisions ∙ ap (λ (x : LiveBranch). x.clauses.decisions) is_with
+
+pub on_ok : {X E P : Type 0} (r : Result X E) → P → OnOk r P
+on_ok (Ok x) h = h
+on_ok (Err e) h = tt
+
+pub goes_nowhere : (v w : LiveBranch) → w ≡ v → GoesOn v w
+goes_nowhere v w same = record {
+  book = ap (λ (x : LiveBranch). x.book) same;
+  literals = ([], ap (λ (x : LiveBranch). x.literals) same ∙ sym (append-nil v.literals));
+  decisions = ([], ap (λ (x : LiveBranch). x.clauses.decisions) same
+      ∙ sym (append-nil v.clauses.decisions));
+  limit = ap (λ (x : LiveBranch). x.sharing.theory.limit) same;
+}

@@ -153,7 +153,11 @@ module _ (v : LiveBranch) (is : IsBranch v) (given : IsGiven v) (book_stays : Bo
         record {
           book = book;
           occur = is.shared.occur;
-          stopped = record { underway = stopped.underway; jam = stopped.jam };
+          stopped = record {
+            underway = stopped.underway;
+            jam = stopped.jam;
+            barred = stopped.barred;
+          };
           told = All-weaker (AreEqualInModels (literals_in (shared_in t)))
               (AreEqualInModels (literals_on v)) (λ pair h M all. h M (shared_hold M all))
               (told_in (shared_in t)) stopped.underway.follow;

@@ -1,9 +1,9 @@
 -- Occurrences are asserted one after another.
-use Rattle.std.proofs.Common.{◌≡◌, ℕ, ◌+◌, ◌<◌, List, [], ◌∷◌, ◌++◌, length, take, drop, get_or}
+use Rattle.std.proofs.Common.{◌≡◌, ℕ, ◌+◌, ◌<◌, ◌≤◌, List, [], ◌∷◌, ◌++◌, length, take, drop, get_or}
 use Rattle.std.proofs.Common.{refl, ap, sym, subst, ◌∙◌, append_assoc}
 use Rattle.std.specs.Prelude.{Ok, Err}
 use Rattle.std.specs.List.{All}
-use Rattle.std.proofs.lemmas.List.{append-nil, take_more, take-append-drop}
+use Rattle.std.proofs.lemmas.List.{append-nil, take_all, take_more, take-append-drop}
 use Rattle.std.proofs.lemmas.List.Elements.{All-append, All-nil, All-take, All-weaker}
 use Rattle.esc_term.specs.declared.formula.Formula.{Formula}
 use Rattle.esc_term.specs.Model.{Model}
@@ -145,3 +145,9 @@ module _ (v u : LiveBranch) (steps : Steps v u) (ps : List Occurrence) (i : ℕ)
       go (stop.Form t) k = stops_both v u steps (take i ps) (p ∷ []) before w (stop.Form t) k
       go (stop.Pivots j) k = stops_both v u steps (take i ps) (p ∷ []) before w (stop.Pivots j) k
       go stop.Memory k = tt
+
+-- the list is at its end
+pub all_reached : (v u : LiveBranch) (ps : List Occurrence) (i : ℕ) → length ps ≤ i
+    → Reaches v u (take i ps) → Reaches v u ps
+all_reached v u ps i done reaches =
+    subst (Reaches v u) (take_all i ps done) reaches

@@ -50,11 +50,13 @@ use Rattle.esc_sharing.proofs.Lists.{All-each, flat_map-push}
 use Rattle.esc_outcome.specs.Jam.{IsNumberOf}
 use Rattle.esc_outcome.specs.JamLaws.{IsGivenBy, shared_in}
 use Rattle.esc_outcome.proofs.Giving.{given_after_call}
-use Rattle.esc_outcome.proofs.Jamming.{stop_is_jam}
-use Rattle.esc_book.specs.Atom.{IsAtomOf, IsGroupOf}
+use Rattle.esc_outcome.proofs.Jamming.{stops_is_stopped}
+use Rattle.esc_book.specs.Atom.{IsAtomOf, IsDistinctAt, IsGroupOf}
+use Rattle.esc_book.specs.declared.atom.Atom.{Atom}
 use Rattle.esc_book.specs.declared.atom.Atom.TheVariants as atom
 use Rattle.esc_live.specs.StandingInside.{Comes, GivesUpSharing, IsLiteralAt, ShareEnds, SharesItem}
-use Rattle.esc_live.specs.StandingInside.{StaysGiven, StopsSharing, equation_lit, item_sides}
+use Rattle.esc_live.specs.StandingInside.{HasNumbers, StaysGiven, StopsSharing, equation_lit}
+use Rattle.esc_live.specs.StandingInside.{item_sides}
 use Rattle.esc_live.specs.StandingInside.{order_lit, sides_form}
 use Rattle.esc_live.specs.View.{logged}
 use Rattle.esc_live.specs.declared.branch.LiveBranch.{LiveBranch}
@@ -206,22 +208,20 @@ module _ (s t : Sharing Simplex) (numbers : numbers_in t.theory ≡ numbers_in s
     stops : (why : Stop) → why ≢ stop.Memory → IsUnderway (shared_in t)
         → UnlessMemory (IsBarred t.theory (Contains terms)
         (IsGapOf (number_terms (numbers_in s.theory)))) why → StopsSharing s t item why
-    stops why not_memory underway barred fs literals by are asks = record {
-      underway = underway;
-      jam = stop_is_jam fs t literals terms (number_terms (numbers_in s.theory)) why (record {
-        sound = sound;
-        underway = underway;
-        given = given fs by;
-        literals_are = are;
-        more = [];
-        ask = asks ∙ (sym shares.asks
-            ∙ sym (append-nil (flat_map asked (items_in (shared_in t)))));
-        terms_are = among fs by;
-        others_are = by.numbers;
-        barred = barred;
-        memory = not_memory;
-      });
-    }
+    stops why not_memory underway barred fs literals by are asks =
+        stops_is_stopped fs t literals terms (number_terms (numbers_in s.theory)) why (record {
+          sound = sound;
+          underway = underway;
+          given = given fs by;
+          literals_are = are;
+          more = [];
+          ask = asks ∙ (sym shares.asks
+              ∙ sym (append-nil (flat_map asked (items_in (shared_in t)))));
+          terms_are = among fs by;
+          others_are = by.numbers;
+          barred = barred;
+          memory = not_memory;
+        })
 
     abbrev Barred : Stop → Type 0
     Barred = IsBarred t.theory (Contains terms) (IsGapOf (number_terms (numbers_in s.theory)))
@@ -450,3 +450,33 @@ pub order_sides : (s : Sharing Simplex) (a b : ℕ) (p : Bool) → a < node_coun
     → AreSides s.graph (numbers_in s.theory) (order_lit a b p)
 order_sides s a b true al bl an bn = record { first = al; second = bl; order = (an, bn) }
 order_sides s a b false al bl an bn = record { first = bl; second = al; order = (bn, an) }
+
+-- ---- from the calls
+
+-- the literal, by what it is
+pub equation_ends : (s t : Sharing Simplex) → numbers_in t.theory ≡ numbers_in s.theory
+    → IsSimplex t.theory
+    → AddsMade (senses_in s.theory) (senses_in t.theory) (number_terms (numbers_in s.theory))
+    → (lit is : Lit) → lit ≡ is → (result : Result State Stop)
+    → AssertEnds (shared_in s) (shared_in t) (lit ∷ []) [] result
+    → IfErr result (UnlessMemory (IsBarred t.theory (Contains (lit_terms s lit))
+    (IsGapOf (number_terms (numbers_in s.theory)))))
+    → ShareEnds s t (item_of s.graph is) result
+equation_ends s t numbers sound made lit is same result ends stop =
+    subst (λ l. ShareEnds s t (item_of s.graph l) result) same
+    (lit_ends s t numbers sound (stays_given s t numbers made) lit result ends stop)
+
+pub order_at : (v : LiveBranch) (at : Occurrence) → IsShared (shared_in v.sharing)
+    → HasNumbers v at → (a b : ℕ)
+    → IsAtomOf v.sharing.graph (formula_at (logged v) at) (atom.Less a b)
+    → AreSides v.sharing.graph (numbers_in v.sharing.theory) (order_lit a b at.positive)
+order_at v at shared numbers a b is =
+    let both = numbers (node_term v.sharing.graph a) (node_term v.sharing.graph b) is.0
+    (Contains-term_of v.sharing.graph.nodes a is.1.0)
+    (Contains-term_of v.sharing.graph.nodes b is.1.1) in
+    order_sides v.sharing a b at.positive is.1.0 is.1.1
+    (number_at v.sharing shared a is.1.0 both.0) (number_at v.sharing shared b is.1.1 both.1)
+
+pub is_distinct : (v : LiveBranch) (at : Occurrence) (told : Atom) → told ≡ atom.Distinct
+    → IsAtomOf v.sharing.graph (formula_at (logged v) at) told → IsDistinctAt (logged v) at
+is_distinct v at told same is = subst (IsAtomOf v.sharing.graph (formula_at (logged v) at)) same is
