@@ -5,6 +5,7 @@ pub mod Coarser
 pub mod CoveredLiteral
 pub mod Deciding
 pub mod Ending
+pub mod FactCalls
 pub mod FactLive
 pub mod Judged
 pub mod LiteralOn
