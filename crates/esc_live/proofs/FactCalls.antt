@@ -130,3 +130,9 @@ module _ (v m u : LiveBranch) (brought : m ≡ record v { sharing = m.sharing })
         → w.book.live ≡ v.book.live ++ place ∷ []
     steps_live place live = ap (λ (b : BookView). b.live) steps.book
         ∙ (live ∙ ap (λ (x : LiveBranch). x.book.live ++ place ∷ []) brought)
+
+-- it did not, and all is as after the first call
+pub default_rest : (v m u : LiveBranch) → m ≡ record v { sharing = m.sharing } → u ≡ m
+    → u ≡ record v { sharing = u.sharing }
+default_rest v m u brought same =
+    subst (λ (x : LiveBranch). x ≡ record v { sharing = x.sharing }) (sym same) brought

@@ -13,6 +13,7 @@ pub mod LiveAtoms
 pub mod LiveNotes
 pub mod LogGrows
 pub mod LoggedMore
+pub mod NewBranch
 pub mod OccurrenceSteps
 pub mod OrderNumbers
 pub mod Parts

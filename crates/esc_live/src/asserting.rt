@@ -65,6 +65,7 @@ impl LiveBranch {
         ensures undo { Notes live_undo (λ rec. rec) trail.old.records trail.new.records
             self.old self.new }
     {
+        book_laws();
         match self.bring(place, trail)? {
             State::Open => (),
             State::Closed => return Ok(State::Closed),

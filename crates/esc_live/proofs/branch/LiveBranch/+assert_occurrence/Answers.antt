@@ -1,4 +1,5 @@
-use Rattle.std.proofs.Common.{◌≡◌, ◌+◌, ◌*◌, ◌<◌, [], ◌∷◌, Ok, Err, ap, sym, subst, ◌∙◌, refl, arith}
+use Rattle.std.proofs.Common.{◌≡◌, ◌+◌, ◌*◌, ◌<◌, false, get_or, [], ◌∷◌, Ok, Err, ap, sym, subst, ◌∙◌, refl, arith}
+use Rattle.std.proofs.lemmas.List.{get_or_default}
 use Rattle.esc_book.specs.Atom.{expansion_of}
 use Rattle.esc_book.specs.Book.{BookView, IsLiveOccurrence}
 use Rattle.esc_clause.specs.Expansion as expansion
@@ -18,6 +19,9 @@ use Rattle.esc_live.proofs.Reaching.{all_reached, closed_next, err_next, live_af
 use Rattle.esc_live.proofs.Reaching.{reaches_nothing, steps_both, steps_nothing}
 use Rattle.esc_live.proofs.branch.LiveBranch.+assert_occurrence.Goals as goal
 
+abbrev no_occurrence : Occurrence
+no_occurrence = record { fact = 0; place = 0; positive = false }
+
 -- ---- one occurrence
 
 pub assert_occurrence-expand-requires : goal.assert_occurrence-expand-requires
@@ -25,9 +29,7 @@ assert_occurrence-expand-requires t c = (
   omega arith,
   (
     c.requires.standing,
-    c.requires.given,
-    c.requires.live,
-    sym c.truth_of.ensures ∙ c.in-Open.is,
+    (c.requires.given, (c.requires.live, sym c.truth_of.ensures ∙ c.in-Open.is)),
   ),
 )
 
@@ -63,12 +65,16 @@ expand-assert_all-requires t c =
     let expands : expansion.expanded (logged c.args.self.now) c.args.at
     ≡ expansion.AllOf c.as_slice.result.now =
     sym c.in-Ok.ensures ∙ (ap expansion_of c.in-AllOf.is
-    ∙ ap expansion.AllOf (sym c.as_slice.ensures)) in (
-      parts_fall c.args.self.now c.args.at c.requires.live c.as_slice.result.now expands,
+    ∙ ap expansion.AllOf (sym c.as_slice.ensures)) in
+    let falls = parts_fall c.args.self.now c.args.at c.requires.live c.as_slice.result.now expands
+    in (
+      omega arith,
       (
         c.requires.standing,
-        c.requires.given,
-        parts_live c.args.self.now c.args.at c.requires.live c.as_slice.result.now expands,
+        (
+          c.requires.given,
+          parts_live c.args.self.now c.args.at c.requires.live c.as_slice.result.now expands,
+        ),
       ),
     )
 
@@ -84,8 +90,8 @@ expand-returns-in-AllOf-clause-ends t c =
 
 -- ---- its clauses
 
-pub expand-returns-in-OneOfEach-clause-ends : goal.expand-returns-in-OneOfEach-clause-ends
-expand-returns-in-OneOfEach-clause-ends t c =
+pub expand-returns-in-Ok-add_clauses-clause-ends : goal.expand-returns-in-Ok-add_clauses-clause-ends
+expand-returns-in-Ok-add_clauses-clause-ends t c =
     let expands : expansion.expanded (logged c.args.self.now) c.args.at
     ≡ expansion.OneOfEach c.as_slice-in-OneOfEach.result.now =
     sym c.in-Ok.ensures ∙ (ap expansion_of c.in-OneOfEach.is
@@ -94,9 +100,12 @@ expand-returns-in-OneOfEach-clause-ends t c =
     c.requires.live c.as_slice-in-OneOfEach.result.now expands c.add_clauses.new.self
     c.in-Ok-add_clauses.ensures.ok
 
-pub expand-returns-in-OneOfEach-clause-steps : goal.expand-returns-in-OneOfEach-clause-steps
-expand-returns-in-OneOfEach-clause-steps t c =
+pub expand-returns-in-Ok-add_clauses-clause-steps : goal.expand-returns-in-Ok-add_clauses-clause-steps
+expand-returns-in-Ok-add_clauses-clause-steps t c =
     steps_added c.args.self.now c.add_clauses.new.self c.requires.given c.add_clauses.ensures.adds
+
+pub expand-returns-in_default-clause-undo : goal.expand-returns-in_default-clause-undo
+expand-returns-in_default-clause-undo t c = live_nothing c.args.trail.now.records c.args.self.now
 
 -- ---- it cannot be
 
@@ -122,13 +131,16 @@ assert_all-parts-init t c = record {
 
 pub assert_all-parts-preserved : goal.assert_all-parts-preserved
 assert_all-parts-preserved t c =
+    let p = get_or c.args.parts.now c.parts.part-index no_occurrence in
+    let is = get_or_default c.args.parts.now c.parts.part-index no_occurrence p
+    c.parts-test.true in
     let stays : c.assert_occurrence.result ≡ Ok State.Open = c.in_ok-assert_occurrence.was
     ∙ ap Ok c.in-Open.is in
     record {
       reaches = reaches_next c.args.self.now c.parts.self c.parts.invariant.steps c.args.parts.now
-          c.parts.part-index c.part-item.result c.parts-test.true c.part-item.is
+          c.parts.part-index p c.parts-test.true is
           c.parts.invariant.reaches c.assert_occurrence.new.self
-          (subst (Asserts c.parts.self c.assert_occurrence.new.self (c.part-item.result ∷ []))
+          (subst (Asserts c.parts.self c.assert_occurrence.new.self (p ∷ []))
           stays c.assert_occurrence.ensures.ends);
       steps = steps_both c.args.self.now c.parts.self c.assert_occurrence.new.self
           c.parts.invariant.steps c.assert_occurrence.ensures.steps;
@@ -137,19 +149,22 @@ assert_all-parts-preserved t c =
 
 pub assert_all-assert_occurrence-requires : goal.assert_all-assert_occurrence-requires
 assert_all-assert_occurrence-requires t c =
-    let falls = size_falls (logged c.args.self.now) c.args.parts.now c.parts.part-index
-    c.part-item.result c.parts-test.true in (
-      subst (λ (b : BookView). 1 + 3 * size_at b.logged c.part-item.result
-      < 2 + 3 * sizes_at (logged c.args.self.now) c.args.parts.now)
-      (sym c.parts.invariant.steps.book)
-      (subst (λ o. 1 + 3 * size_at (logged c.args.self.now) o
-      < 2 + 3 * sizes_at (logged c.args.self.now) c.args.parts.now) (sym c.part-item.is) falls),
+    let p = get_or c.args.parts.now c.parts.part-index no_occurrence in
+    let falls : 1 + 3 * size_at (logged c.parts.self) p
+    < 2 + 3 * sizes_at (logged c.args.self.now) c.args.parts.now =
+    subst (λ (b : BookView). 1 + 3 * size_at b.logged p
+    < 2 + 3 * sizes_at (logged c.args.self.now) c.args.parts.now)
+    (sym c.parts.invariant.steps.book)
+    (size_falls (logged c.args.self.now) c.args.parts.now c.parts.part-index no_occurrence
+    c.parts-test.true) in (
+      omega arith,
       (
         c.parts.invariant.reaches.standing,
-        c.parts.invariant.steps.given,
-        live_after c.args.self.now c.parts.self c.part-item.result c.parts.invariant.steps
-            (subst (IsLiveOccurrence c.args.self.now.book) (sym c.part-item.is)
-            (c.requires.live c.parts.part-index c.part-item.result c.parts-test.true)),
+        (
+          c.parts.invariant.steps.given,
+          live_after c.args.self.now c.parts.self p c.parts.invariant.steps
+              (c.requires.live c.parts.part-index no_occurrence c.parts-test.true),
+        ),
       ),
     )
 
@@ -160,12 +175,14 @@ assert_all-returns-clause-ends t c =
 
 pub assert_all-returns-in-Closed-clause-ends : goal.assert_all-returns-in-Closed-clause-ends
 assert_all-returns-in-Closed-clause-ends t c =
+    let p = get_or c.args.parts.now c.parts.part-index no_occurrence in
+    let is = get_or_default c.args.parts.now c.parts.part-index no_occurrence p
+    c.parts-test.true in
     let closes : c.assert_occurrence.result ≡ Ok State.Closed = c.in_ok-assert_occurrence.was
     ∙ ap Ok c.in-Closed.is in
     closed_next c.args.self.now c.parts.self c.parts.invariant.steps c.args.parts.now
-    c.parts.part-index c.part-item.result c.parts-test.true c.part-item.is
-    c.parts.invariant.reaches
-    (subst (Asserts c.parts.self c.assert_occurrence.new.self (c.part-item.result ∷ []))
+    c.parts.part-index p c.parts-test.true is c.parts.invariant.reaches
+    (subst (Asserts c.parts.self c.assert_occurrence.new.self (p ∷ []))
     closes c.assert_occurrence.ensures.ends)
 
 pub assert_all-returns-in-Closed-clause-steps : goal.assert_all-returns-in-Closed-clause-steps
@@ -180,13 +197,16 @@ assert_all-returns-in-Closed-clause-undo t c =
 pub assert_all-returns-in_err-assert_occurrence-clause-ends :
     goal.assert_all-returns-in_err-assert_occurrence-clause-ends
 assert_all-returns-in_err-assert_occurrence-clause-ends t c =
+    let p = get_or c.args.parts.now c.parts.part-index no_occurrence in
+    let is = get_or_default c.args.parts.now c.parts.part-index no_occurrence p
+    c.parts-test.true in
     subst (Asserts c.args.self.now c.assert_occurrence.new.self c.args.parts.now)
     (sym (err_is c.from_residual.result c.in_err-assert_occurrence.field-0.0
     c.from_residual.ensures))
     (err_next c.args.self.now c.parts.self c.parts.invariant.steps c.args.parts.now
-    c.parts.part-index c.part-item.result c.parts-test.true c.part-item.is
+    c.parts.part-index p c.parts-test.true is
     c.parts.invariant.reaches c.assert_occurrence.new.self c.in_err-assert_occurrence.field-0.0
-    (subst (Asserts c.parts.self c.assert_occurrence.new.self (c.part-item.result ∷ []))
+    (subst (Asserts c.parts.self c.assert_occurrence.new.self (p ∷ []))
     c.in_err-assert_occurrence.was c.assert_occurrence.ensures.ends))
 
 pub assert_all-returns-in_err-assert_occurrence-clause-steps :
