@@ -3,4 +3,5 @@ pub mod Expanded
 pub mod Laws
 pub mod LiveUndo
 pub mod Promises
+pub mod StandingInside
 pub mod View

@@ -9,6 +9,7 @@ ghost use Rattle.esc_book.specs.Book.{IsBook, IsLiveOccurrence};
 ghost use Rattle.esc_cover.specs.Counterexample.{is_literal_form};
 ghost use Rattle.esc_book.specs.Judging.{IsReady, judged_by_book};
 ghost use Rattle.esc_live.specs.Promises.{IsBranch, IsGiven, IsSoundIn};
+ghost use Rattle.esc_live.specs.StandingInside.{IsStanding};
 ghost use Rattle.esc_live.specs.View.{judge_on, literals_on};
 
 use crate::record::LiveRec;
@@ -85,6 +86,15 @@ impl LiveBranch {
         ensures ready { IsReady result }
         ensures judged { judged_by_book result ≡ judge_on self.now }
     {
+        self.judge_standing()
+    }
+
+    /// It too, while an occurrence is being asserted.
+    pub(crate) fn judge_standing(&self) -> BookJudge<'_>
+        requires standing { IsStanding self.now }
+        ensures ready { IsReady result }
+        ensures judged { judged_by_book result ≡ judge_on self.now }
+    {
         BookJudge {
             book: &self.book,
             saying: Saying {
@@ -104,6 +114,10 @@ impl LiveBranch {
             item.positive)) (literals_on self.now) }
         ensures { IfOk result (λ items. items ≡ literals_on self.now) }
     {
-        Err(AllocError)
+        let mut items = Literals::new(self.alloc);
+        'literals: for at in self.literals.as_slice() {
+            items.push(self.book.item(self.sharing.graph(), *at)?)?;
+        }
+        Ok(items)
     }
 }

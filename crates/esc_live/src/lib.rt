@@ -4,7 +4,9 @@
 
 mod asserting;
 mod branch;
+mod expanding;
 mod laws;
+mod literals;
 mod record;
 
 pub use branch::LiveBranch;
