@@ -10,10 +10,11 @@ ghost use Rattle.esc_live.specs.View.{logged};
 ghost use Rattle.esc_search.specs.Proving.{ComesTo, IsReady, live_facts};
 
 use crate::outcome::Outcome;
+use esc_egraph::State;
 use esc_fact::{Base, Fact, FactLog, Facts};
 use esc_live::{LiveBranch, LiveRec};
 use esc_outcome::{Limits, Side, Sides, Splits};
-use esc_term::Formulas;
+use esc_term::{Copied, Formulas};
 use esc_trail::Trail;
 use sqlite_items::Items;
 use std::alloc::{AllocError, Global};
@@ -61,7 +62,11 @@ impl Search {
         ensures formulas { logged self.new.branch ≡ formulas_of base.now self.new.log }
         ensures limits { self.new.limits ≡ self.old.limits }
     {
-        Outcome::Memory
+        match self.begin(base) {
+            Ok(State::Open) => self.explore(base),
+            Ok(State::Closed) => Outcome::Closed,
+            Err(stop) => self.stopped_by(base, stop),
+        }
     }
 
     /// The facts that were used, in order.
@@ -82,7 +87,13 @@ impl Search {
     pub fn live(&self) -> Result<Facts, AllocError>
         ensures { IfOk result (λ facts. facts ≡ live_facts self.now) }
     {
-        Err(AllocError)
+        let mut facts = Items::new(self.alloc);
+        'live: for place in self.branch.book.live() {
+            if let Some(fact) = self.log.list().get(*place) {
+                facts.push(fact.copied(self.alloc)?)?;
+            }
+        }
+        Ok(facts)
     }
 
     /// Ends the search, and gives the facts of its log and their formulas. It fails only where
@@ -90,6 +101,8 @@ impl Search {
     pub fn into_log(self) -> Result<(Facts, Formulas), AllocError>
         ensures { IfOk result (λ pair. (pair.0 ≡ self.log) × (pair.1 ≡ logged self.branch)) }
     {
-        Err(AllocError)
+        let facts = self.facts()?;
+        let formulas = self.branch.book.formulas().copied(self.alloc)?;
+        Ok((facts, formulas))
     }
 }

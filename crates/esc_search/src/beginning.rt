@@ -1,0 +1,100 @@
+//! The facts that name a formula of the base become live, at the root.
+
+ghost use Rattle.std.specs.Prelude.{◌≡◌, ◌<◌, ◌≤◌, ◌+◌, ◌∷◌, ◌++◌, [], length, slice_get, Ok, OnOk};
+ghost use Rattle.std.specs.Prelude.{Some};
+ghost use Rattle.std.specs.Option.{IsSome};
+ghost use Rattle.esc_egraph.specs.declared.state.State.TheVariants as state;
+ghost use Rattle.esc_fact.specs.Legal.{IsClosedBase, first_facts};
+ghost use Rattle.esc_search.specs.Proving.{IsReady};
+ghost use Rattle.esc_search.specs.SearchInside.{Begins, IsBegun, IsKept, IsLogged};
+
+use crate::search::Search;
+use esc_egraph::State;
+use esc_fact::{Base, Fact, formula_of};
+use esc_simplex::Stop;
+use std::alloc::AllocError;
+
+impl Search {
+    /// Logs the next fact that names a formula of the base. It fails only where memory is wanting.
+    fn log_first(&mut self, base: &Base, fact: Fact) -> Result<(), AllocError>
+        requires closed { IsClosedBase base.now }
+        requires begun { IsBegun base.now self.old }
+        requires next { slice_get (first_facts base.now) (length self.old.log) ≡ Some fact }
+        ensures begun { OnOk result (IsBegun base.now self.new) }
+        ensures log { OnOk result (self.new.log ≡ self.old.log ++ fact ∷ []) }
+        ensures kept { IsKept base.now self.old self.new }
+    {
+        let len = self.log.list().len();
+        let formula = formula_of(self.alloc, base, &fact)?;
+        self.sides.push(None)?;
+        self.log.add(fact)?;
+        if self.branch.log(formula).is_err() {
+            self.log.cut(len);
+            return Err(AllocError);
+        }
+        Ok(())
+    }
+
+    /// Logs the facts that name a formula of the base. It fails only where memory is wanting.
+    fn log_all(&mut self, base: &Base) -> Result<(), AllocError>
+        requires closed { IsClosedBase base.now }
+        requires goal { IsSome base.now.negated }
+        requires begun { IsBegun base.now self.old }
+        requires without_goal { length self.old.log < length (first_facts base.now) }
+        ensures logged { OnOk result (IsLogged base.now self.new) }
+        ensures kept { IsKept base.now self.old self.new }
+    {
+        'background: while self.log.list().len() < base.background.len() {
+            let place = self.log.list().len() as u64;
+            self.log_first(base, Fact::Given(place))?;
+        }
+        self.log_first(base, Fact::NegGoal)
+    }
+
+    /// Asserts the next fact of the log.
+    fn assert_next(&mut self, base: &Base) -> Result<State, Stop>
+        requires logged { IsLogged base.now self.old }
+        requires more { length self.old.branch.book.live < length self.old.log }
+        ensures begins { Begins base.now self.new result }
+        ensures live { result ≡ Ok state.Open → length self.new.branch.book.live
+            ≡ length self.old.branch.book.live + 1 }
+        ensures log { self.new.log ≡ self.old.log }
+        ensures kept { IsKept base.now self.old self.new }
+    {
+        let _base = base;
+        let place = self.branch.book.live().len();
+        self.branch.assert(place, &mut self.trail)
+    }
+
+    /// Asserts the facts of the log.
+    fn assert_all(&mut self, base: &Base) -> Result<State, Stop>
+        requires logged { IsLogged base.now self.old }
+        ensures begins { Begins base.now self.new result }
+        ensures live { result ≡ Ok state.Open → length self.new.log
+            ≤ length self.new.branch.book.live }
+        ensures kept { IsKept base.now self.old self.new }
+    {
+        'facts: while self.branch.book.live().len() < self.log.list().len() {
+            if self.assert_next(base)? == State::Closed {
+                return Ok(State::Closed);
+            }
+        }
+        Ok(State::Open)
+    }
+
+    /// Logs and asserts the facts that name a formula of the base.
+    pub(crate) fn begin(&mut self, base: &Base) -> Result<State, Stop>
+        requires closed { IsClosedBase base.now }
+        requires goal { IsSome base.now.negated }
+        requires ready { IsReady base.now self.old }
+        ensures begins { Begins base.now self.new result }
+        ensures live { result ≡ Ok state.Open → length self.new.log
+            ≤ length self.new.branch.book.live }
+        ensures kept { IsKept base.now self.old self.new }
+    {
+        if self.log_all(base).is_err() {
+            return Err(Stop::Memory);
+        }
+        self.assert_all(base)
+    }
+}
