@@ -2,7 +2,7 @@
 use Rattle.std.proofs.Common.{◌≡◌, ◌⊎◌, ℕ, ◌<◌, ◌+◌, suc, true, List, [], ◌∷◌, ◌++◌, Option, Some}
 use Rattle.std.proofs.Common.{None, Result, Ok, Err, length, map, get_or, append-nil, refl, sym, ap}
 use Rattle.std.proofs.Common.{ap₂, subst, ◌∙◌, inl, inr, arith}
-use Rattle.std.specs.Prelude.{IsSomeAnd, slice_get}
+use Rattle.std.specs.Prelude.{IsSome, IsSomeAnd, slice_get}
 use Rattle.std.specs.List.{All, Contains, cons_option, filter_map, range_with_len}
 use Rattle.std.specs.Option.{option_map}
 use Rattle.std.proofs.lemmas.List.{length_push}
@@ -82,13 +82,13 @@ module _ (base : Base) (s : Search) (all_logged : IsLogged base s)
       ap (λ ks. get_or ks h.0 place) begun.live ∙ get_or-range_with_len 0 place h.0 place h.1 in
       omega (arith, h.1, at, h.2)
 
-  next : Formula
+  abbrev next : Formula
   next = get_or fs place formula.True
 
   there : slice_get fs place ≡ Some next
   there = slice_get-get_or fs place formula.True place_within
 
-  IsTrueIn : Model → Formula → Type 0
+  abbrev IsTrueIn : Model → Formula → Type 0
   IsTrueIn M f = truth (read_in M) f ≡ true
 
   so : (M : Model) → AllTrue (read_in M) (live_on s.branch ++ next ∷ [])
@@ -100,7 +100,8 @@ module _ (base : Base) (s : Search) (all_logged : IsLogged base s)
   )
 
   -- a model of the log
-  from_log : (M : Model) → AllTrue (read_in M) fs → AllTrue (read_in M) (live_on s.branch ++ next ∷ [])
+  from_log : (M : Model) → AllTrue (read_in M) fs
+      → AllTrue (read_in M) (live_on s.branch ++ next ∷ [])
   from_log M all =
       All-push (IsTrueIn M) (live_on s.branch) next
       (All-filter_map (slice_get fs) (IsTrueIn M) s.branch.book.live (λ k f h e.
@@ -149,7 +150,7 @@ module _ (base : Base) (s : Search) (all_logged : IsLogged base s)
     live_read =
         ap (λ gs. filter_map (slice_get gs) w.book.live) formulas
         ∙ filter_map-read (formula_of base) s.log
-        (subst (All _) (sym all_logged.1) (first_named base)) w.book.live
+        (subst (All (λ f. IsSome (formula_of base f))) (sym all_logged.1) (first_named base)) w.book.live
 
     halted : (why : Stop) → GoesLiveOrNothing s.branch w place → IsStoppedAt w why
         → ((M : Model) → HoldsWithFact s.branch place M → All (HoldsIn M) (literals_on w))

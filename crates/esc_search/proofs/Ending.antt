@@ -58,7 +58,7 @@ none_made (f ∷ facts) all =
     ∙ none_made facts (All-tail (λ g. IsTrue (is_first g)) f facts all)
 
 module _ (base : Base) (depth : ℕ) where
-  IsShallow : Deep → Type 0
+  abbrev IsShallow : Deep → Type 0
   IsShallow d = d.depth ≤ depth
 
   one_more : (before : List Deep) (f : Fact) → IsTrue (is_first f) → All IsShallow before

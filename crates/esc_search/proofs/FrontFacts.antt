@@ -56,7 +56,7 @@ use Rattle.esc_search.proofs.LiveFacts.{length-first, slice_get-contained}
 -- ---- places
 
 pub range_push : (a n : ℕ) → range_with_len a (suc n) ≡ range_with_len a n ++ (a + n) ∷ []
-range_push a 0 = ap (λ k. k ∷ []) (omega arith)
+range_push a zero = ap (λ k. k ∷ []) (omega arith)
 range_push a (suc n) =
     let shift : (a + 1) + n ≡ a + suc n = omega arith in
     ap (λ ks. a ∷ ks) (range_push (a + 1) n
@@ -73,7 +73,7 @@ filter_map-places_more xs ys (k ∷ ks) all =
 
 -- ---- the branch of a front of the first facts
 
-front_branch : List Fact → Branch
+abbrev front_branch : List Fact → Branch
 front_branch log = record { log = log; sides = map (λ fact. None) log; splits = []; under = None }
 
 longer_front : (xs ys : List Fact) (x : Fact) → ys ≡ xs ++ x ∷ []

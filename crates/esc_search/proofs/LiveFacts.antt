@@ -1,12 +1,12 @@
 -- The facts that are live, and their formulas.
-use Rattle.std.proofs.Common.{◌≡◌, ℕ, ◌<◌, ◌+◌, zero, suc, true, List, [], ◌∷◌, ◌++◌, Option, Some, None, length}
+use Rattle.std.proofs.Common.{◌≡◌, ℕ, ◌<◌, ◌+◌, zero, suc, true, List, [], ◌∷◌, ◌++◌, Option, Some, None, length, take, get_or}
 use Rattle.std.proofs.Common.{append_assoc, refl, sym, ap, ap₂, subst, ◌∙◌, inl, inr, arith}
 use Rattle.std.specs.Prelude.{IsSome, slice_get}
 use Rattle.std.specs.List.{All, Contains, cons_option, filter_map, range_with_len}
 use Rattle.std.specs.Option.{option_and_then}
-use Rattle.std.proofs.lemmas.List.{length_push}
+use Rattle.std.proofs.lemmas.List.{length_push, take_more}
 use Rattle.std.proofs.lemmas.List.Elements.{All-append, All-contains, All-cons, All-head, All-nil}
-use Rattle.std.proofs.lemmas.List.Elements.{All-tail, All-weaker}
+use Rattle.std.proofs.lemmas.List.Elements.{All-tail, All-weaker, filter_map-append}
 use Rattle.std.proofs.lemmas.Option.{get_or_from_slice_get, same_Some, slice_get_within}
 use Rattle.esc_term.proofs.Members.{Contains-cases, Contains-here, Contains-later, Contains-none}
 use Rattle.esc_term.specs.declared.formula.Formula.{Formula}
@@ -63,6 +63,15 @@ module _ {X Y : Type 0} (h : X → Option Y) where
           → length (cons_option o (filter_map h xs)) ≡ suc (length (filter_map h xs))
       one None e = absurd (cc)
       one (Some y) e = refl
+
+-- one place more
+pub filter_map-more : {X Y : Type 0} (h : X → Option Y) (xs : List X) (i : ℕ) (x : X)
+    → i < length xs → x ≡ get_or xs i x
+    → filter_map h (take (i + 1) xs) ≡ filter_map h (take i xs) ++ cons_option (h x) []
+filter_map-more h xs i x below is =
+    ap (filter_map h) (take_more xs i x below)
+    ∙ (filter_map-append h (take i xs) (get_or xs i x ∷ [])
+    ∙ ap (λ y. filter_map h (take i xs) ++ cons_option (h y) []) (sym is))
 
 -- ---- elements by what they are read as
 
