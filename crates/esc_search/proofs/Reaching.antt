@@ -1,5 +1,6 @@
 -- What a call on the branch at hand reaches.
 use Rattle.std.proofs.Common.{◌≡◌, ℕ, true, false, List, [], ◌∷◌, ◌++◌, Result, Ok, Err, length}
+use Rattle.std.proofs.Common.{◌<◌, ◌+◌, arith}
 use Rattle.std.proofs.Common.{refl, sym, ap, subst, ◌∙◌}
 use Rattle.std.specs.Prelude.{OnOk, slice_get}
 use Rattle.std.specs.List.{All, Contains, filter_map, range_with_len}
@@ -31,7 +32,8 @@ use Rattle.esc_live.specs.declared.record.LiveRec.{LiveRec}
 use Rattle.esc_search.specs.Proving.{decided_on, live_facts}
 use Rattle.esc_search.specs.SearchInside.{AllAreLive, IsHalted, IsKept, IsSearch, IsWaiting}
 use Rattle.esc_search.specs.SearchInside.{Reaches}
-use Rattle.esc_search.specs.SearchInside.{WasDecided, formulas_under, said_on}
+use Rattle.esc_search.specs.SearchInside.{WasDecided, formulas_under, said_on, steps_left}
+use Rattle.esc_outcome.specs.declared.limits.Limits.{Limits}
 use Rattle.esc_search.specs.declared.open_split.OpenSplit.{OpenSplit}
 use Rattle.esc_search.specs.declared.search.Search.{Search}
 use Rattle.esc_search.proofs.LiveFacts.{filter_map-all_places, length-first}
@@ -135,3 +137,52 @@ module _ (base : Base) (s : Search) (w : LiveBranch) (t : Records LiveRec) (os :
         halted_at base after os search_on (stop.Form x) ends.0 (λ M all. ends.1 M (so M all))
     reached (Err (stop.Pivots j)) decided ends =
         halted_at base after os search_on (stop.Pivots j) ends.0 (λ M all. ends.1 M (so M all))
+
+-- ---- one call after another
+
+pub kept_both : (base : Base) (a b c : Search) → IsKept base a b → IsKept base b c
+    → IsKept base a c
+kept_both base a b c first second = record {
+  given = second.given;
+  formulas = second.formulas;
+  limits = second.limits ∙ first.limits;
+}
+
+pub kept_here : (base : Base) (s : Search) (os : List OpenSplit) → IsSearch base s os
+    → IsKept base s s
+kept_here base s os search = record {
+  given = search.given;
+  formulas = search.formulas;
+  limits = refl;
+}
+
+-- a split more, of which one is open
+pub nearer_split : (base : Base) (s t : Search) (os ps : List OpenSplit) → IsKept base s t
+    → length s.splits < s.limits.splits → length t.splits ≡ length s.splits + 1
+    → length ps ≡ length os + 1 → steps_left t ps < steps_left s os
+nearer_split base s t os ps kept few splits waits =
+    let limit = ap (λ (l : Limits). l.splits) kept.limits in
+    omega (arith, limit, few, splits, waits)
+
+-- an open split less
+pub nearer_back : (base : Base) (s t : Search) (os ps : List OpenSplit) → IsKept base s t
+    → t.splits ≡ s.splits → length os ≡ length ps + 1 → steps_left t ps < steps_left s os
+nearer_back base s t os ps kept splits waits =
+    let limit = ap (λ (l : Limits). l.splits) kept.limits in
+    let same = ap length splits in
+    omega (arith, limit, same, waits)
+
+-- nothing but the branch
+pub steps_kept : (base : Base) (s t : Search) (os : List OpenSplit) (n : ℕ) → IsKept base s t
+    → t.splits ≡ s.splits → steps_left s os < n → steps_left t os < n
+steps_kept base s t os n kept splits below =
+    let limit = ap (λ (l : Limits). l.splits) kept.limits in
+    let same = ap length splits in
+    omega (arith, limit, same, below)
+
+pub steps_same : (base : Base) (s t : Search) (os : List OpenSplit) → IsKept base s t
+    → t.splits ≡ s.splits → steps_left t os ≡ steps_left s os
+steps_same base s t os kept splits =
+    let limit = ap (λ (l : Limits). l.splits) kept.limits in
+    let same = ap length splits in
+    omega (arith, limit, same)

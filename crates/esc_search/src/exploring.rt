@@ -1,6 +1,6 @@
 //! The search through the splits.
 
-ghost use Rattle.std.specs.Prelude.{◌≡◌, ◌<◌, ◌+◌, ◌∷◌, ◌++◌, [], length, Ok, OnOk, Some, true};
+ghost use Rattle.std.specs.Prelude.{◌≡◌, ℕ, ◌<◌, ◌+◌, ◌∷◌, ◌++◌, [], length, Ok, OnOk, Some, true};
 ghost use Rattle.std.specs.Prelude.{false};
 ghost use Rattle.esc_clause.specs.Refinement.{next_split};
 ghost use Rattle.esc_egraph.specs.declared.state.State.TheVariants as state;
@@ -10,6 +10,7 @@ ghost use Rattle.esc_search.specs.Proving.{ComesTo};
 ghost use Rattle.esc_search.specs.SearchInside.{IsAt, IsKept, IsNearer, IsSearch};
 ghost use Rattle.esc_search.specs.SearchInside.{IsToDecide, Reaches, StepsTo, steps_left};
 
+use crate::keeping::answered;
 use crate::open_split::{OpenSplit, OpenSplits};
 use crate::outcome::Outcome;
 use crate::search::Search;
@@ -105,6 +106,38 @@ impl Search {
         self.under = Some((last.number, false));
     }
 
+    /// Goes on from what a call reached.
+    fn go_from(&self, base: &Base, waiting: &OpenSplits, reached: Result<State, Stop>) -> Step
+        requires reaches { Reaches base.now self.now waiting.now reached }
+        ensures steps { StepsTo base.now self.now waiting.now result }
+        ensures nearer { (before after : ℕ) → after < before → IsNearer before after result }
+    {
+        let _waiting = waiting;
+        match reached {
+            Ok(state) => Step::Goes(state),
+            Err(stop) => Step::Ends(self.stopped_by(base, stop)),
+        }
+    }
+
+    /// Decides an occurrence where the search is, and goes on from there.
+    fn take_side(
+        &mut self,
+        base: &Base,
+        at: Occurrence,
+        holds: bool,
+        waiting: &OpenSplits,
+    ) -> Step
+        requires search { IsSearch base.now self.old waiting.now }
+        requires ready { IsToDecide base.now self.old at holds }
+        ensures steps { StepsTo base.now self.new waiting.now result }
+        ensures nearer { (before : ℕ) → steps_left self.old waiting.now < before
+            → IsNearer before (steps_left self.new waiting.now) result }
+        ensures kept { IsKept base.now self.old self.new }
+    {
+        let reached = self.decide(base, at, holds, waiting);
+        self.go_from(base, waiting, reached)
+    }
+
     /// Splits where the branch at hand is to be split, and goes on with the first side.
     fn split(&mut self, base: &Base, at: Occurrence, waiting: &mut OpenSplits) -> Step
         requires here { IsAt base.now self.old waiting.old state.Open }
@@ -117,14 +150,11 @@ impl Search {
         ensures kept { IsKept base.now self.old self.new }
     {
         if self.splits.len() as u64 >= self.limits.splits {
-            return Step::Ends(self.out_of_splits(base, waiting, at));
+            return Step::Ends(answered(self.out_of_splits(base, waiting, at)));
         }
-        if self.open_split(base, at, waiting).is_err() {
-            return Step::Ends(Outcome::Memory);
-        }
-        match self.decide(base, at, true, waiting) {
-            Ok(state) => Step::Goes(state),
-            Err(stop) => Step::Ends(self.stopped_by(base, stop)),
+        match self.open_split(base, at, waiting) {
+            Ok(()) => self.take_side(base, at, true, waiting),
+            Err(_) => Step::Ends(Outcome::Memory),
         }
     }
 
@@ -136,14 +166,28 @@ impl Search {
             result }
         ensures kept { IsKept base.now self.old self.new }
     {
-        let Some(last) = waiting.pop() else {
-            return Step::Ends(Outcome::Closed);
-        };
-        let at = last.split.at;
-        self.other_side(base, last, waiting);
-        match self.decide(base, at, false, waiting) {
-            Ok(state) => Step::Goes(state),
-            Err(stop) => Step::Ends(self.stopped_by(base, stop)),
+        match waiting.pop() {
+            None => Step::Ends(Outcome::Closed),
+            Some(last) => {
+                let at = last.split.at;
+                self.other_side(base, last, waiting);
+                self.take_side(base, at, false, waiting)
+            }
+        }
+    }
+
+    /// Goes on with a refined branch.
+    fn go_on_refined(&mut self, base: &Base, waiting: &mut OpenSplits) -> Step
+        requires here { IsAt base.now self.old waiting.old state.Open }
+        requires quiet { IsQuiet self.old.branch }
+        ensures steps { StepsTo base.now self.new waiting.new result }
+        ensures nearer { IsNearer (steps_left self.old waiting.old) (steps_left self.new waiting.new)
+            result }
+        ensures kept { IsKept base.now self.old self.new }
+    {
+        match next_split(&self.branch) {
+            None => Step::Ends(Outcome::Open),
+            Some(at) => self.split(base, at, waiting),
         }
     }
 
@@ -156,12 +200,9 @@ impl Search {
         ensures kept { IsKept base.now self.old self.new }
     {
         match self.refine_here(base, waiting) {
-            Err(stop) => Step::Ends(self.stopped_by(base, stop)),
+            Ok(State::Open) => self.go_on_refined(base, waiting),
             Ok(State::Closed) => self.go_back(base, waiting),
-            Ok(State::Open) => match next_split(&self.branch) {
-                None => Step::Ends(Outcome::Open),
-                Some(at) => self.split(base, at, waiting),
-            },
+            Err(stop) => Step::Ends(self.stopped_by(base, stop)),
         }
     }
 

@@ -2,12 +2,13 @@
 
 ghost use Rattle.std.specs.Prelude.{◌≡◌, ◌≤◌, IfOk, IsTrue, Some, length};
 ghost use Rattle.esc_clause.specs.Refinement.{next_split};
-ghost use Rattle.esc_live.specs.View.{judge_on};
-ghost use Rattle.esc_live.specs.View.{literals_on};
+ghost use Rattle.esc_fact.specs.declared.base.Base.{Base as Bases};
+ghost use Rattle.esc_live.specs.View.{judge_on, literals_on};
 ghost use Rattle.esc_outcome.specs.Causes.{is_endless, is_overflow};
 ghost use Rattle.esc_outcome.specs.JamLaws.{stuck_with};
 ghost use Rattle.esc_refine.specs.Refining.{IsQuiet, SplitsAt};
 ghost use Rattle.esc_search.specs.Proving.{ComesTo, IsStopped, branch_of};
+ghost use Rattle.esc_search.specs.declared.search.Search.{Search as Searches};
 ghost use Rattle.esc_search.specs.SearchInside.{HaltsUnlessMemory, IsHalted, IsOpenHere, IsSearch};
 
 use crate::open_split::OpenSplits;
@@ -66,7 +67,8 @@ impl Search {
         ensures { IfOk result (λ cause. IsStopped base.now self.now cause) }
     {
         let branch = self.kept()?;
-        Ok(Cause::Overflow(branch, self.stuck(base, stop)?))
+        let stuck = self.stuck(base, stop)?;
+        Ok(Cause::Overflow(branch, stuck))
     }
 
     /// What is told where a maximising takes too many pivots.
@@ -76,7 +78,8 @@ impl Search {
         ensures { IfOk result (λ cause. IsStopped base.now self.now cause) }
     {
         let branch = self.kept()?;
-        Ok(Cause::Pivots(branch, self.stuck(base, stop)?))
+        let stuck = self.stuck(base, stop)?;
+        Ok(Cause::Pivots(branch, stuck))
     }
 
     /// What is answered where the arithmetic stopped.
@@ -84,38 +87,43 @@ impl Search {
         requires { HaltsUnlessMemory base.now self.now stop }
         ensures { ComesTo base.now self.now result }
     {
-        let cause = match stop {
-            Stop::Memory => return Outcome::Memory,
-            Stop::Pivots(jam) => self.unended(base, Stop::Pivots(jam)),
-            Stop::Spill(jam) => self.overflowed(base, Stop::Spill(jam)),
-            Stop::Form(term) => self.overflowed(base, Stop::Form(term)),
-        };
-        match cause {
-            Ok(cause) => Outcome::Stopped(cause),
-            Err(_) => Outcome::Memory,
+        match stop {
+            Stop::Memory => Outcome::Memory,
+            Stop::Pivots(jam) => answered(self.unended(base, Stop::Pivots(jam))),
+            Stop::Spill(jam) => answered(self.overflowed(base, Stop::Spill(jam))),
+            Stop::Form(term) => answered(self.overflowed(base, Stop::Form(term))),
         }
     }
 
-    /// What is answered where there are as many splits as are allowed, and this would be the next.
+    /// What is told where there are as many splits as are allowed, and this would be the next.
     pub(crate) fn out_of_splits(
         &self,
         base: &Base,
         waiting: &OpenSplits,
         at: Occurrence,
-    ) -> Outcome
+    ) -> Result<Cause, AllocError>
         requires search { IsSearch base.now self.now waiting.now }
         requires here { IsOpenHere base.now self.now }
         requires quiet { IsQuiet self.now.branch }
         requires next { next_split (judge_on self.now.branch) self.now.branch.clauses ≡ Some at }
         requires splits { SplitsAt self.now.branch (Some at) }
         requires spent { self.now.limits.splits ≤ length self.now.splits }
-        ensures { ComesTo base.now self.now result }
+        ensures { IfOk result (λ cause. IsStopped base.now self.now cause) }
     {
         let _base = base;
         let _waiting = waiting;
-        match self.kept() {
-            Ok(branch) => Outcome::Stopped(Cause::Splits(branch, at)),
-            Err(_) => Outcome::Memory,
-        }
+        let branch = self.kept()?;
+        Ok(Cause::Splits(branch, at))
+    }
+}
+
+/// The cause, or want of memory.
+pub(crate) fn answered(cause: Result<Cause, AllocError>) -> Outcome
+    ensures { (base : Bases) (s : Searches) → IfOk cause (IsStopped base s)
+        → ComesTo base s result }
+{
+    match cause {
+        Ok(cause) => Outcome::Stopped(cause),
+        Err(_) => Outcome::Memory,
     }
 }
