@@ -1,10 +1,11 @@
 -- Where a place stands first, in a list that gets one place more, or loses its last.
 use Rattle.std.proofs.Common.{◌≡◌, ℕ, ◌+◌, ◌<◌, ◌≤◌, nat_eq, ◌==◌, ◌||◌, Bool, true, false, cond}
-use Rattle.std.proofs.Common.{if◌then◌else◌, zero, suc}
-use Rattle.std.proofs.Common.{List, [], ◌∷◌, ◌++◌, Some, None, Option, length, refl, ap, sym, ◌∙◌}
+use Rattle.std.proofs.Common.{if◌then◌else◌, zero, suc, inl, inr, ◌⊎◌}
+use Rattle.std.proofs.Common.{List, [], ◌∷◌, ◌++◌, Some, None, Option, length, refl, ap, sym, subst, ◌∙◌}
 use Rattle.std.proofs.Common.{arith}
-use Rattle.std.proofs.lemmas.Bool.{eqb-true}
-use Rattle.std.specs.List.{list_any, slice_get}
+use Rattle.std.proofs.lemmas.Bool.{eqb-false, eqb-true}
+use Rattle.std.specs.List.{Contains, list_any, slice_get}
+use Rattle.esc_term.proofs.Members.{Contains-cases, Contains-here, Contains-later, Contains-none}
 use Rattle.std.specs.Option.{is_some}
 use Rattle.esc_book.specs.LiveInside.{place_from}
 
@@ -49,6 +50,37 @@ found_any n (d ∷ ds) key = pick (nat_eq d key) (found_any (n + 1) ds key)
         ≡ (b || list_any (λ d. d == key) ds)
     pick true ih = refl
     pick false ih = ih
+
+pub any_contains : (ds : List ℕ) (key : ℕ) → list_any (λ d. d == key) ds ≡ true
+    → Contains ds key
+any_contains [] key e = cc
+any_contains (d ∷ ds) key e = pick (nat_eq d key) refl (λ h. any_contains ds key h) e
+  where
+    pick : (b : Bool) → nat_eq d key ≡ b
+        → (list_any (λ d. d == key) ds ≡ true → Contains ds key)
+        → (b || list_any (λ d. d == key) ds) ≡ true → Contains (d ∷ ds) key
+    pick true is ih h = subst (λ k. Contains (d ∷ ds) k) (eqb-true d key is) (Contains-here d ds)
+    pick false is ih h = Contains-later d ds key (ih h)
+
+absent : (ds : List ℕ) (key : ℕ) → list_any (λ d. d == key) ds ≡ false → Contains ds key → ⊥
+absent [] key e h = Contains-none key h
+absent (d ∷ ds) key e h =
+    step (nat_eq d key) refl e (λ k. absent ds key k) (Contains-cases d ds key h)
+  where
+    step : (b : Bool) → nat_eq d key ≡ b → (b || list_any (λ d. d == key) ds) ≡ false
+        → (list_any (λ d. d == key) ds ≡ false → Contains ds key → ⊥)
+        → (d ≡ key) ⊎ Contains ds key → ⊥
+    step true is e ih c = cc
+    step false is e ih (inl same) = eqb-false d key is same
+    step false is e ih (inr later) = ih e later
+
+pub contains_any : (ds : List ℕ) (key : ℕ) → Contains ds key
+    → list_any (λ d. d == key) ds ≡ true
+contains_any ds key h = pick (list_any (λ d. d == key) ds) refl
+  where
+    pick : (b : Bool) → list_any (λ d. d == key) ds ≡ b → list_any (λ d. d == key) ds ≡ true
+    pick true e = e
+    pick false e = absurd (absent ds key e h)
 
 other_key : (n : ℕ) (ds : List ℕ) (d : ℕ) (key : ℕ)
     → nat_eq d key ≡ false → place_from n (ds ++ (d ∷ [])) key ≡ place_from n ds key

@@ -127,7 +127,7 @@ stands_at (Formula-F.And es) =
       whole = whole_all es;
       owned = headed (formula.And fs) _ _ (occurrences.occurrences_of-And fs)
           (heads.heads_of-And fs)
-      (ap pairs_form (out-roll-Formula (Formula-F.And fs))) (owned_all es);
+          (ap pairs_form (out-roll-Formula (Formula-F.And fs))) (owned_all es);
     }
 stands_at (Formula-F.Or es) =
     let fs = map (λ e. e.0) es in
@@ -137,7 +137,7 @@ stands_at (Formula-F.Or es) =
       whole = whole_all es;
       owned = headed (formula.Or fs) _ _ (occurrences.occurrences_of-Or fs)
           (heads.heads_of-Or fs)
-      (ap pairs_form (out-roll-Formula (Formula-F.Or fs))) (owned_all es);
+          (ap pairs_form (out-roll-Formula (Formula-F.Or fs))) (owned_all es);
     }
 stands_at (Formula-F.Not e) = record {
   parts = _;

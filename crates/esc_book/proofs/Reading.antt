@@ -15,7 +15,7 @@ use Rattle.esc_clause.specs.Occurrences.{occurrences_of, size_of}
 use Rattle.esc_egraph.specs.Graph.{Graph}
 use Rattle.esc_book.specs.Book.{IsPage, Outline, form_at, heads_of, laid, own, page_of, told}
 use Rattle.esc_book.specs.declared.entry.Entry.{Entry}
-use Rattle.esc_book.proofs.Laying.{laid-get, length-laid}
+use Rattle.esc_book.proofs.Laying.{laid-get, length-laid, outline_at}
 use Rattle.esc_book.proofs.Nested.{occurrences_of-heads}
 use Rattle.esc_book.specs.ReadingInside.{AreThere, begin_at}
 use Rattle.esc_book.proofs.Pairs.{get-before, get-behind, slice_get-map}
@@ -28,9 +28,12 @@ begin_at-rise [] (suc i) j le = omega arith
 begin_at-rise (h ∷ hs) zero j le = omega arith
 begin_at-rise (h ∷ hs) (suc i) zero le = absurd (omega (arith, le))
 begin_at-rise (h ∷ hs) (suc i) (suc j) le =
-    omega (arith, begin_at-rise hs i j (omega (arith, le)),
-    length-append (own h) (flat_map own (take i hs)),
-    length-append (own h) (flat_map own (take j hs)))
+    omega (
+      arith,
+      begin_at-rise hs i j (omega (arith, le)),
+      length-append (own h) (flat_map own (take i hs)),
+      length-append (own h) (flat_map own (take j hs)),
+    )
 
 -- what stands at a place is of the last formula that begins there or before
 pub own_at : (hs : List Formula) (i : ℕ) (f : Formula) (place : ℕ) → slice_get hs i ≡ Some f
@@ -89,21 +92,39 @@ begin_at-next hs n p ps there =
 
     take_later : (hs : List Formula) (n : ℕ) (xs ys : List Formula) → drop n hs ≡ xs ++ ys
         → take (n + length xs) hs ≡ take n hs ++ xs
-    take_later hs zero xs ys e = ap (λ l. take (length xs) l) e ∙ take_front xs ys
-    take_later [] (suc n) [] ys e = refl
+    take_later hs zero xs ys e =
+        let none : 0 + length xs ≡ length xs = omega arith in
+        ap (λ m. take m hs) none ∙ (ap (λ l. take (length xs) l) e ∙ take_front xs ys)
+    take_later [] (suc n) [] ys e =
+        let next : suc n + 0 ≡ suc n = omega arith in
+        let nothing : List Formula = [] in
+        ap (λ m. take m nothing) next
     take_later [] (suc n) (x ∷ xs) ys e = cc
-    take_later (h ∷ hs) (suc n) xs ys e = ap (λ l. h ∷ l) (take_later hs n xs ys e)
+    take_later (h ∷ hs) (suc n) xs ys e =
+        let next : suc n + length xs ≡ suc (n + length xs) = omega arith in
+        ap (λ m. take m (h ∷ hs)) next ∙ ap (λ l. h ∷ l) (take_later hs n xs ys e)
 
 -- a formula with no part before it begins behind the formula whose first part it is
 pub begin_at-own : (hs : List Formula) (n : ℕ) (f : Formula) → slice_get hs n ≡ Some f
-    → begin_at hs (n + 1) ≡ begin_at hs n + length (own f)
+    → begin_at hs (suc n) ≡ begin_at hs n + length (own f)
 begin_at-own [] n f e = cc
 begin_at-own (h ∷ hs) zero f e =
     let same : h ≡ f = cc in
-    length-append (own h) [] ∙ (omega (arith) ∙ ap (λ x. 0 + length (own x)) same)
+    let all : length (own h ++ []) ≡ 0 + length (own h) = omega (arith, length-append (own h) []) in
+    all ∙ ap (λ x. 0 + length (own x)) same
 begin_at-own (h ∷ hs) (suc n) f e =
-    omega (arith, begin_at-own hs n f e, length-append (own h) (flat_map own (take n hs)),
-    length-append (own h) (flat_map own (take (n + 1) hs)))
+    omega (
+      arith,
+      begin_at-own hs n f e,
+      length-append (own h) (flat_map own (take n hs)),
+      length-append (own h) (flat_map own (take (suc n) hs)),
+    )
+
+pub get-within : {X : Type 0} (xs : List X) (i : ℕ) (x : X) → slice_get xs i ≡ Some x
+    → i < length xs
+get-within [] i x e = cc
+get-within (y ∷ xs) zero x e = omega arith
+get-within (y ∷ xs) (suc i) x e = omega (arith, get-within xs i x e)
 
 -- ---- entries
 
@@ -131,20 +152,35 @@ module _ (g : Graph) (f : Formula) (page : List Entry) (is : IsPage g f page) wh
       let entry : slice_get (map (told g) page) i ≡ Some (told g (get_or page i d)) =
       slice_get-map (told g) page i
       ∙ ap (option_map (told g)) (slice_get-get_or page i d l) in
-      let both : Some (told g (get_or page i d)) ≡ Some (record {
-        begin = 0 + begin_at (heads_of f) i;
-        next = 0 + i + length (heads_of s);
-        form = form_at (out-Formula s);
-      }) =
+      let both : Some (told g (get_or page i d))
+      ≡ Some (outline_at (0 + begin_at (heads_of f) i) (0 + i + length (heads_of s)) s) =
       sym entry ∙ (ap (λ l. slice_get l i) is.is ∙ laid_there) in
-      (s, record { there = there; outline = cc })
+      let one : told g (get_or page i d)
+      ≡ outline_at (0 + begin_at (heads_of f) i) (0 + i + length (heads_of s)) s = cc in
+      let place : 0 + begin_at (heads_of f) i ≡ begin_at (heads_of f) i = omega arith in
+      let index : 0 + i + length (heads_of s) ≡ i + length (heads_of s) = omega arith in
+      (s, record { there = there; outline = one ∙ ap₂ (λ x y. outline_at x y s) place index })
+
+  pub begin_there : (i : ℕ) (e : Entry) → i < length page → e ≡ get_or page i e
+      → e.begin ≡ begin_at (heads_of f) i
+  begin_there i e l is_e =
+      ap (λ (x : Entry). x.begin) is_e ∙ ap (λ (o : Outline). o.begin) (read i e l).1.outline
+
+  pub next_there : (i : ℕ) (e : Entry) (s : Formula) → i < length page → e ≡ get_or page i e
+      → slice_get (heads_of f) i ≡ Some s → e.next ≡ i + length (heads_of s)
+  next_there i e s l is_e there =
+      let found = read i e l in
+      let same : found.0 ≡ s =
+      let both : Some found.0 ≡ Some s = sym found.1.there ∙ there in cc in
+      ap (λ (x : Entry). x.next) is_e ∙ (ap (λ (o : Outline). o.next) found.1.outline
+      ∙ ap (λ x. i + length (heads_of x)) same)
 
   pub begins_rise : IsNonDecreasingBy (λ (e : Entry). e.begin) page
   begins_rise i j d le l =
       let first = read i d (omega (arith, le, l)) in
       let second = read j d l in
       let here : (get_or page i d).begin ≡ begin_at (heads_of f) i =
-      ap (λ o. o.begin) first.1.outline in
+      ap (λ (o : Outline). o.begin) first.1.outline in
       let there : (get_or page j d).begin ≡ begin_at (heads_of f) j =
-      ap (λ o. o.begin) second.1.outline in
+      ap (λ (o : Outline). o.begin) second.1.outline in
       omega (arith, here, there, begin_at-rise (heads_of f) i j le)

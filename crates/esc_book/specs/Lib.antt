@@ -4,6 +4,7 @@ pub mod BookInside
 pub mod BookUndo
 pub mod GroupInside
 pub mod Judging
+pub mod JudgingInside
 pub mod LiveInside
 pub mod ReadingInside
 pub mod WritingInside

@@ -1,7 +1,7 @@
 //! Books.
 
 ghost use Rattle.std.specs.Prelude.{◌≡◌, ◌↔◌, ◌<◌, ◌≤◌, [], ◌∷◌, ◌++◌, length, take, IfOk, OnOk, OnErr};
-ghost use Rattle.std.specs.Prelude.{IsTrue, MatchOption, Some, None, slice_get};
+ghost use Rattle.std.specs.Prelude.{IfSome, IsTrue, MatchOption, Some, None, false, slice_get};
 ghost use Rattle.std.specs.List.{All, Contains};
 ghost use Rattle.esc_trail.specs.Undo.{Notes};
 ghost use Rattle.esc_egraph.specs.Graph.{Graph};
@@ -12,10 +12,11 @@ ghost use Rattle.esc_clause.specs.Occurrences.{formula_at, item_at};
 ghost use Rattle.esc_book.specs.Atom.{IsAtomAt, IsAtomOf, IsDistinctAt, IsGroupOf, expansion_of};
 ghost use Rattle.esc_book.specs.Book.{IsBook, IsLiveOccurrence, is_live};
 ghost use Rattle.esc_book.specs.BookUndo.{book_undo};
+ghost use Rattle.esc_book.specs.JudgingInside.{IsPageOf};
 
 mod read;
 
-use crate::entry::Page;
+use crate::entry::{Entry, Page};
 use crate::live::Live;
 use crate::record::BookRec;
 use crate::writing::page_of;
@@ -78,6 +79,18 @@ impl Book {
         ensures there { IsTrue result ↔ Contains self.now.live place }
     {
         self.live.find(place).is_some()
+    }
+
+    /// The table of the live fact at a place of the log.
+    pub(crate) fn page(&self, fact: u64) -> Option<&[Entry]>
+        requires book { (g : Graph) × IsBook g self.now }
+        ensures some { IfSome result (λ page. IsPageOf self.now fact page.now) }
+        ensures none { result ≡ None → is_live self.now fact ≡ false }
+    {
+        match self.live.find(fact as usize) {
+            Some(place) => Some(self.pages[place].as_slice()),
+            None => None,
+        }
     }
 
     /// Puts a formula at the end of the log. It fails only where memory is wanting.

@@ -3,15 +3,18 @@
 #![tactic(auto)]
 
 mod atom;
+mod atoms;
 mod book;
 mod entry;
 mod expanded;
+mod expanding;
 mod group;
 mod judge;
 mod laws;
 mod live;
 mod page;
 mod record;
+mod saying_of;
 mod writing;
 
 pub use atom::Atom;

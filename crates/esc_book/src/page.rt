@@ -6,7 +6,8 @@ ghost use Rattle.esc_term.specs.declared.formula.Formula.{Formula};
 ghost use Rattle.esc_egraph.specs.Graph.{Graph};
 ghost use Rattle.esc_clause.specs.Expansion.{from_place};
 ghost use Rattle.esc_book.specs.Book.{IsPage, heads_of};
-ghost use Rattle.esc_book.specs.ReadingInside.{AreThere, IsLocated, begin_at};
+ghost use Rattle.esc_book.specs.GroupInside.{node_pairs};
+ghost use Rattle.esc_book.specs.ReadingInside.{AreThere, IsLocated, begin_at, pair_place};
 
 use crate::entry::{Entry, Kind};
 use crate::group::Group;
@@ -34,6 +35,9 @@ pub(crate) fn locate(page: &[Entry], place: u64) -> Place
         return Place::Nowhere;
     }
     let entry = &page[behind - 1];
+    if place < entry.begin {
+        return Place::Nowhere;
+    }
     if entry.begin == place {
         return Place::Entry(behind - 1);
     }
@@ -44,7 +48,9 @@ pub(crate) fn locate(page: &[Entry], place: u64) -> Place
 }
 
 /// The pair of a group with a number.
-fn pair_in(group: &Group, number: u64) -> Place {
+fn pair_in(group: &Group, number: u64) -> Place
+    ensures { result ≡ pair_place (slice_get (node_pairs group.now) number) }
+{
     match group.pair(number) {
         Some((a, b)) => Place::Pair(a, b),
         None => Place::Nowhere,
@@ -95,7 +101,8 @@ pub(crate) fn parts_of(
             place: begin_of(page, index),
             positive,
         })?;
-        index = next_of(page, index);
+        let next = next_of(page, index);
+        index = if next > index { next } else { to };
     }
     Ok(parts)
 }

@@ -16,11 +16,7 @@ use std::alloc::{AllocError, Global};
 
 /// The table of a formula. It fails only where memory is wanting, or where a place would be too
 /// large a number.
-pub(crate) fn page_of(
-    alloc: Global,
-    graph: &EGraph,
-    formula: &Formula,
-) -> Result<Page, AllocError>
+pub(crate) fn page_of(alloc: Global, graph: &EGraph, formula: &Formula) -> Result<Page, AllocError>
     requires terms { All (Contains (terms_in graph.now)) (terms_of formula.now) }
     ensures { IfOk result (IsPage graph.now formula.now) }
 {
@@ -76,15 +72,13 @@ fn write_inside(
         (behind_own inside formula.now) page.old page.new) }
 {
     match formula {
-        Formula::And(parts) => write_all(alloc, graph, parts.as_slice(), inside, page),
-        Formula::Or(parts) => write_all(alloc, graph, parts.as_slice(), inside, page),
-        Formula::Not(part) => write(alloc, graph, part.get(), inside, page),
-        Formula::LabelPos(_, part) => write(alloc, graph, part.get(), inside, page),
-        Formula::LabelNeg(_, part) => write(alloc, graph, part.get(), inside, page),
-        Formula::Implies(left, right) => {
-            write_two(alloc, graph, left.get(), right.get(), inside, page)
+        Formula::And(parts) | Formula::Or(parts) => {
+            write_all(alloc, graph, parts.as_slice(), inside, page)
         }
-        Formula::Iff(left, right) => {
+        Formula::Not(part) | Formula::LabelPos(_, part) | Formula::LabelNeg(_, part) => {
+            write(alloc, graph, part.get(), inside, page)
+        }
+        Formula::Implies(left, right) | Formula::Iff(left, right) => {
             write_two(alloc, graph, left.get(), right.get(), inside, page)
         }
         Formula::Distinct(terms) => behind_pairs(inside, terms.len()),
@@ -113,7 +107,8 @@ fn write_two(
         page.old page.new) }
 {
     let middle = write(alloc, graph, left, start, page)?;
-    write(alloc, graph, right, middle, page)
+    let end = write(alloc, graph, right, middle, page)?;
+    Ok(end)
 }
 
 /// Writes the entries of formulas side by side.
@@ -137,7 +132,7 @@ fn write_all(
 }
 
 /// The place behind the pairs of so many terms.
-fn behind_pairs(start: u64, count: usize) -> Result<u64, AllocError>
+pub(crate) fn behind_pairs(start: u64, count: usize) -> Result<u64, AllocError>
     ensures { IfOk result (λ end. end ≡ start + pair_count count) }
 {
     let mut end = start;
@@ -148,6 +143,7 @@ fn behind_pairs(start: u64, count: usize) -> Result<u64, AllocError>
 }
 
 /// What a formula is, but for its parts.
+#[tactic(auto, using(crate::proofs::FormKinds::kinds))]
 fn kind_of(alloc: Global, graph: &EGraph, formula: &Formula) -> Result<Kind, AllocError>
     requires terms { All (Contains (terms_in graph.now)) (terms_of formula.now) }
     ensures { IfOk result (IsKindOf graph.now formula.now) }

@@ -20,6 +20,7 @@ use Rattle.esc_simplex.specs.Barred.{AreRowsAt, AreSensesAt, IsBarred, KeepsRows
 use Rattle.esc_simplex.specs.Barred.{KeptStepJams, MayBeMade}
 use Rattle.esc_simplex.specs.Senses.{IsPointOf, Sense, StandsFor, gap_of, sense_fraction, term}
 use Rattle.esc_simplex.specs.Senses.{term_at}
+use Rattle.esc_simplex.specs.SimplexLaws.{barred_more}
 use Rattle.esc_simplex.specs.View.{Allows, numbers_in, senses_in}
 use Rattle.esc_simplex.specs.declared.simplex.Simplex.{Simplex}
 use Rattle.esc_simplex.specs.declared.stop.Stop.{Stop}
@@ -33,9 +34,12 @@ use Rattle.esc_sharing.specs.Stops.{UnlessMemory}
 use Rattle.esc_sharing.specs.declared.sharing.Sharing.{Sharing}
 use Rattle.esc_sharing.proofs.BoundNodes.{for_bound, term_is_number}
 use Rattle.esc_sharing.proofs.Least.{number_of_node}
+use Rattle.esc_sharing.proofs.LiteralSteps.{unless_weaker}
 use Rattle.esc_sharing.proofs.Lists.{All-each, Contains-of_map}
 use Rattle.esc_outcome.specs.Jam.{IsNumberOf, IsSenseOf, JamsAs, KeepsRowsOf, RestrictsAs}
+use Rattle.esc_outcome.specs.Jam.{numbers_of}
 use Rattle.esc_outcome.specs.JamLaws.{StopIsJam, StopsAt, meanings_in, shared_in, stuck_with}
+use Rattle.esc_outcome.specs.Stopping.{StopsIsStopped}
 use Rattle.esc_outcome.specs.declared.stuck.Meaning.{Meaning}
 use Rattle.esc_outcome.specs.declared.stuck.Stuck.{Stuck}
 
@@ -228,4 +232,15 @@ stop_is_jam fs s literals terms others why at = record {
   told = told_are fs s literals terms others why at;
   terms = terms_are fs s literals terms others why at;
   jams = jams_as fs s literals terms others why at why at.barred at.memory;
+}
+
+pub stops_is_stopped : StopsIsStopped
+stops_is_stopped fs s literals terms others why at = record {
+  underway = at.underway;
+  jam = stop_is_jam fs s literals terms others why at;
+  barred = unless_weaker (IsBarred s.theory (Contains terms) (IsGapOf others))
+      (IsBarred s.theory (IsNumberOf fs) (IsGapOf (numbers_of fs)))
+      (λ other. barred_more s.theory (Contains terms) (IsNumberOf fs) (IsGapOf others)
+      (IsGapOf (numbers_of fs)) (λ t h. All-contains (IsNumberOf fs) terms t at.terms_are h)
+      (gap_given fs s literals terms others why at) other) why at.barred;
 }

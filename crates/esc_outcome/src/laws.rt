@@ -8,15 +8,17 @@ ghost use Rattle.esc_outcome.specs.GrownLaws.{SplitsRunOutEarly};
 ghost use Rattle.esc_outcome.specs.JamLaws.{GivenAfterCall, GivenByMore, StopIsJam, ToldFollows};
 ghost use Rattle.esc_outcome.specs.PlainLaws.{PlainHasFirstFacts, PlainIsNotRefuted};
 ghost use Rattle.esc_outcome.specs.PlainLaws.{PlainRunsOutOfSplits, PlainValidIsRefuted};
+ghost use Rattle.esc_outcome.specs.Stopping.{StopsIsStopped};
 ghost use Rattle.esc_outcome.specs.TreeLaws.{DecidedStays, NewSidesAreFree, PathBelow, PathsStay};
 ghost use Rattle.esc_outcome.specs.TreeLaws.{RefutedByMore, RefutedStays, RootCloses, SidesClose};
 ghost use Rattle.esc_outcome.specs.TreeLaws.{TreeGrows, TreeIsSmall, TreeStays};
 
-/// A stop of the arithmetic is a jam of the formulas that gave it its terms, and the pairs that it
-/// was told follow from these formulas where its literals do. Formulas without arithmetic have no
-/// jam.
+/// A stop of the arithmetic is a jam of the formulas that gave it its terms, whichever call answered
+/// it, and the pairs that it was told follow from these formulas where its literals do. Formulas
+/// without arithmetic have no jam.
 pub fn jam_laws()
     ensures jam { StopIsJam }
+    ensures stopped { StopsIsStopped }
     ensures told { ToldFollows }
     ensures more { GivenByMore }
     ensures after_call { GivenAfterCall }

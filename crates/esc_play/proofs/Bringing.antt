@@ -1,7 +1,9 @@
 -- A walk brings terms, and then more of them.
-use Rattle.std.proofs.Common.{◌≡◌, ℕ, suc, ◌<◌, ◌⊎◌, inl, inr, Bool, List, [], ◌∷◌, ◌++◌, length}
-use Rattle.std.proofs.Common.{append_assoc, if◌then◌else◌, map, refl, ap, ap₂, sym, subst, ◌∙◌}
+use Rattle.std.proofs.Common.{◌≡◌, ℕ, suc, ◌<◌, ◌⊎◌, inl, inr, Bool, true, false, List}
+use Rattle.std.proofs.Common.{[], ◌∷◌, ◌++◌, length}
+use Rattle.std.proofs.Common.{append_assoc, if◌then◌else◌, refl, ap, ap₂, sym, subst, ◌∙◌}
 use Rattle.std.proofs.Common.{◌+◌, arith, get_or, take}
+use Rattle.std.specs.Prelude.{OnOk, Result, Ok, Err}
 use Rattle.std.specs.List.{All, Contains, filter, flat_map, fold}
 use Rattle.std.proofs.lemmas.Grind.{flat_map-append}
 use Rattle.std.proofs.lemmas.List.{append-nil, map-append, take_more}
@@ -17,8 +19,8 @@ use Rattle.esc_trail.proofs.Noting.{notes_both, notes_nothing}
 use Rattle.esc_cover.specs.Arithmetic.{is_number, operands, operands_form}
 use Rattle.esc_nodes.specs.Terms.{at_place, term_of}
 use Rattle.esc_egraph.specs.Graph.{Graph}
-use Rattle.esc_branch.proofs.Once.{places_stay}
-use Rattle.esc_branch.proofs.Together.{length-terms_of}
+use Rattle.esc_node_terms.proofs.Once.{places_stay}
+use Rattle.esc_node_terms.proofs.Places.{length-terms_of}
 use Rattle.esc_simplex.specs.SimplexLaws.{simplex_lawful}
 use Rattle.esc_simplex.specs.SimplexUndo.{simplex_undo}
 use Rattle.esc_simplex.specs.declared.record.SimplexRec.{SimplexRec}
@@ -193,8 +195,11 @@ brings_both u v w first middle last ts us ss rs a b = record {
   shared = b.shared;
   terms_are = b.terms_are ∙ (ap (λ seen. fold with_once seen us) a.terms_are
       ∙ sym (fold-append with_once (terms_in u.graph) ts us));
-  nodes = (a.nodes.0 ++ b.nodes.0, b.nodes.1 ∙ (ap (λ ns. ns ++ b.nodes.0) a.nodes.1
-      ∙ append_assoc u.graph.nodes a.nodes.0 b.nodes.0));
+  nodes = (
+    a.nodes.0 ++ b.nodes.0,
+    b.nodes.1 ∙ (ap (λ ns. ns ++ b.nodes.0) a.nodes.1
+        ∙ append_assoc u.graph.nodes a.nodes.0 b.nodes.0),
+  );
   literals = b.literals ∙ a.literals;
   numbers = record {
     more = a.numbers.more ++ b.numbers.more;
@@ -214,6 +219,44 @@ pub brings_as : (v w : Shared) (old new : List ℕ) (ts us ss rs : List Term)
 brings_as v w old new ts us ss rs brings same sides =
     subst (λ xs. Brings v w old new xs rs) (sym same)
     (subst (Brings v w old new ts) (sym sides) brings)
+
+-- what an answer says, where it is no error
+module _ {V E : Type 0} (result : Result V E) where
+  pub passes_as : (v w : Shared) (old new : List ℕ) (ts us ss rs : List Term)
+      → OnOk result (Brings v w old new ts ss) → us ≡ ts → rs ≡ ss
+      → OnOk result (Brings v w old new us rs)
+  passes_as v w old new ts us ss rs brings same sides =
+      subst (λ xs. OnOk result (Brings v w old new xs rs)) (sym same)
+      (subst (λ xs. OnOk result (Brings v w old new ts xs)) (sym sides) brings)
+
+pub passes_both : {V E : Type 0} (result : Result V E) (u v w : Shared)
+    (first middle last : List ℕ) (ts us ss rs : List Term)
+    → Brings u v first middle ts ss → OnOk result (Brings v w middle last us rs)
+    → OnOk result (Brings u w first last (ts ++ us) (ss ++ rs))
+passes_both (Ok x) u v w first middle last ts us ss rs a b =
+    brings_both u v w first middle last ts us ss rs a b
+passes_both (Err e) u v w first middle last ts us ss rs a b = tt
+
+-- two terms, which may be sides of an order
+module _ (u v w : Shared) (first middle last : List ℕ) (s t : Term) (order : Bool) where
+  two_sides : (b : Bool) → (if b then s ∷ t ∷ [] else [])
+      ≡ (if b then s ∷ [] else []) ++ (if b then t ∷ [] else [])
+  two_sides true = refl
+  two_sides false = refl
+
+  pub brings_two : IsShared v → PutsInPlay u v s
+      → GathersFor v.graph first middle (becoming s order) → IsShared w → PutsInPlay v w t
+      → GathersFor w.graph middle last (becoming t order)
+      → Brings u w first last (subterms s ++ subterms t) (if order then s ∷ t ∷ [] else [])
+  brings_two is puts gathers then_is then_puts then_gathers =
+      brings_as u w first last (subterms s ++ subterms t) (subterms s ++ subterms t)
+      ((if order then s ∷ [] else []) ++ (if order then t ∷ [] else []))
+      (if order then s ∷ t ∷ [] else [])
+      (brings_both u v w first middle last (subterms s) (subterms t)
+      (if order then s ∷ [] else []) (if order then t ∷ [] else [])
+      (brings_term u v first middle s order is puts gathers)
+      (brings_term v w middle last t order then_is then_puts then_gathers)) refl
+      (two_sides order)
 
 -- ---- one more of a list that is walked over in turn
 

@@ -1,11 +1,10 @@
 -- The terms in play for formulas and one more, and which of them are arithmetic.
 use Rattle.std.proofs.Common.{◌≡◌, ◌⊎◌, inl, inr, true, List, [], ◌∷◌, ◌++◌, refl, ap, sym, subst}
 use Rattle.std.proofs.Common.{cond, ◌∙◌}
-use Rattle.std.specs.List.{All, Contains, filter, flat_map, fold, list_all}
+use Rattle.std.specs.List.{Contains, filter, flat_map, fold, list_all}
 use Rattle.std.proofs.lemmas.Bool.{and_parts}
 use Rattle.std.proofs.lemmas.List.Elements.{Contains-append_cases, Contains-append_left}
 use Rattle.std.proofs.lemmas.List.Elements.{Contains-push}
-use Rattle.esc_term.specs.declared.term.Head.{Head}
 use Rattle.esc_term.specs.declared.term.Head.TheVariants.{Name, Skolem, Add, Sub, Mul}
 use Rattle.esc_term.specs.declared.term.Term.{Term, out-Term}
 use Rattle.esc_term.specs.declared.term.Term.TheVariants.{rolls-App}
@@ -136,20 +135,20 @@ module _ (gs : List Formula) (f : Formula) (closed : is_closed f ≡ true)
   -- what becomes arithmetic by it is so for all of them
   pub becomes_number : (t : Term) → Contains (arithmetic_of (terms_of f) (sides_in f)) t
       → IsNumberOf gs t
-  becomes_number t h = elim (parts_of t (filter is_number (terms_of f)) (operands (terms_of f))
-  (sides_in f) h) [
-    | inl form ↦
-        let found = of_kept is_number (terms_of f) t form in
-        number_form gs t (in_play t found.0) found.1
-    | inr (inl operand) ↦
-        let found = Contains-flat_map operands_at (terms_of f) t operand in
-        number_operand gs t
-        (in_play t (operand_there (terms_of f) (terms_of-whole f) found.0 t found.1 found.2))
-        (Contains-in_flat_map operands_at (active_terms gs) found.0 t (in_play found.0 found.1)
-        found.2)
-    | inr (inr side) ↦
-        number_side gs t (in_play t (sides_within f t side)) (side_among gs t f among side)
-  ]
+  becomes_number t h =
+      elim (parts_of t (filter is_number (terms_of f)) (operands (terms_of f)) (sides_in f) h) [
+        | inl form ↦
+            let found = of_kept is_number (terms_of f) t form in
+            number_form gs t (in_play t found.0) found.1
+        | inr (inl operand) ↦
+            let found = Contains-flat_map operands_at (terms_of f) t operand in
+            number_operand gs t
+            (in_play t (operand_there (terms_of f) (terms_of-whole f) found.0 t found.1 found.2))
+            (Contains-in_flat_map operands_at (active_terms gs) found.0 t
+            (in_play found.0 found.1) found.2)
+        | inr (inr side) ↦
+            number_side gs t (in_play t (sides_within f t side)) (side_among gs t f among side)
+      ]
 
 -- ---- one more formula
 

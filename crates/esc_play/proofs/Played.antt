@@ -1,8 +1,8 @@
 -- The terms of a formula came in play, and what becomes arithmetic by them was made so: what the
 -- whole call leaves and answers.
-use Rattle.std.proofs.Common.{◌≡◌, ◌≢◌, ℕ, true, inl, inr, List, [], ◌∷◌, ◌++◌, length, map, take}
+use Rattle.std.proofs.Common.{◌≡◌, ◌≢◌, ℕ, true, inl, inr, List, [], ◌++◌, length, map, take}
 use Rattle.std.proofs.Common.{append-nil, ap, ap₂, sym, subst, ◌∙◌}
-use Rattle.std.specs.Prelude.{Ok, Err}
+use Rattle.std.specs.Prelude.{IfErr, OnOk, Result, Ok, Err}
 use Rattle.std.specs.List.{All, Contains, flat_map, fold}
 use Rattle.std.proofs.Math.Seq.{take-append_seam}
 use Rattle.std.proofs.lemmas.List.{length-map, map-append}
@@ -36,7 +36,7 @@ use Rattle.esc_sharing.proofs.Lists.{All-each, Contains-of_map}
 use Rattle.esc_outcome.specs.Jam.{IsNumberOf}
 use Rattle.esc_outcome.specs.JamLaws.{IsGivenBy, shared_in}
 use Rattle.esc_outcome.proofs.Giving.{given_after_call}
-use Rattle.esc_outcome.proofs.Jamming.{stop_is_jam}
+use Rattle.esc_outcome.proofs.Jamming.{stops_is_stopped}
 use Rattle.esc_play.specs.Play.{Comes, GivesMore, PlayEnds, PlaysMore, StopsPlay}
 use Rattle.esc_play.specs.WalkingInside.{Brings, arithmetic_of, sides_in}
 use Rattle.esc_play.proofs.MorePlay.{active_terms-push, becomes_number, new_number, number_or_new}
@@ -155,10 +155,10 @@ module _ (entry mid : Sharing Simplex) (f : Formula) (closed : is_closed f ≡ t
             ∙ sym (active_terms-push fs f closed)));
         numbers = λ t. (
           (λ h. elim (Contains-append_cases (number_terms (numbers_in entry.theory))
-          (number_terms adds.more) t (subst (λ ts. Contains ts t) numbers_are h)) [
-            | inl old ↦ was_number fs f t ((same.numbers t).0 old)
-            | inr new ↦ new_number fs f closed t (made_there t new)
-          ]),
+              (number_terms adds.more) t (subst (λ ts. Contains ts t) numbers_are h)) [
+                | inl old ↦ was_number fs f t ((same.numbers t).0 old)
+                | inr new ↦ new_number fs f closed t (made_there t new)
+              ]),
           (λ h. elim (number_or_new fs f t h) [
             | inl old ↦ old_there t ((same.numbers t).1 old)
             | inr new ↦ new_there t new
@@ -168,20 +168,16 @@ module _ (entry mid : Sharing Simplex) (f : Formula) (closed : is_closed f ≡ t
 
     -- ---- it ends
 
-    pub ends_ok : (state : State)
-        → StepEnds (shared_in exit) (IsShared (shared_in exit)) (Ok state)
-        → All (IsNumber (numbers_in exit.theory)) nodes
-        → PlayEnds (shared_in entry) (shared_in exit) f (Ok state)
-    ends_ok Open is all = (comes, is, plays is all)
-    ends_ok Closed none all = (comes, none)
-
-    pub ends_err : (why : Stop)
-        → StepEnds (shared_in exit) (IsShared (shared_in exit)) (Err why)
-        → PlayEnds (shared_in entry) (shared_in exit) f (Err why)
-    ends_err (stop.Spill j) underway = (comes, underway)
-    ends_err (stop.Form t) underway = (comes, underway)
-    ends_err (stop.Pivots j) underway = (comes, underway)
-    ends_err stop.Memory underway = tt
+    pub ends : (result : Result State Stop)
+        → StepEnds (shared_in exit) (IsShared (shared_in exit)) result
+        → OnOk result (All (IsNumber (numbers_in exit.theory)) nodes)
+        → PlayEnds (shared_in entry) (shared_in exit) f result
+    ends (Ok Open) is all = (comes, is, plays is all)
+    ends (Ok Closed) none all = (comes, none)
+    ends (Err (stop.Spill j)) underway all = (comes, underway)
+    ends (Err (stop.Form t)) underway all = (comes, underway)
+    ends (Err (stop.Pivots j)) underway all = (comes, underway)
+    ends (Err stop.Memory) underway all = tt
 
     -- ---- it is stopped
 
@@ -191,30 +187,35 @@ module _ (entry mid : Sharing Simplex) (f : Formula) (closed : is_closed f ≡ t
 
     stopped : (why : Stop) → why ≢ stop.Memory → IsUnderway (shared_in exit)
         → UnlessMemory Barred why → StopsPlay entry exit f why
-    stopped why not_memory underway barred fs literals among given are asks = record {
-      underway = underway;
-      jam = stop_is_jam fs exit literals (terms_at mid.graph nodes)
-          (number_terms (numbers_in mid.theory) ++ terms_at mid.graph nodes) why (record {
-            sound = keeps.sound;
-            underway = underway;
-            given = gives fs among given;
-            literals_are = are;
-            more = [];
-            ask = asks ∙ (ap (flat_map asked) (sym comes.items)
-                ∙ sym (append-nil (flat_map asked (items_in (shared_in exit)))));
-            terms_are = nodes_given fs among given;
-            others_are = all_given fs among given;
-            barred = barred;
-            memory = not_memory;
-          });
-    }
+    stopped why not_memory underway barred fs literals among given are asks =
+        stops_is_stopped fs exit literals (terms_at mid.graph nodes)
+        (number_terms (numbers_in mid.theory) ++ terms_at mid.graph nodes) why (record {
+          sound = keeps.sound;
+          underway = underway;
+          given = gives fs among given;
+          literals_are = are;
+          more = [];
+          ask = asks ∙ (ap (flat_map asked) (sym comes.items)
+              ∙ sym (append-nil (flat_map asked (items_in (shared_in exit)))));
+          terms_are = nodes_given fs among given;
+          others_are = all_given fs among given;
+          barred = barred;
+          memory = not_memory;
+        })
 
-    pub stops : (why : Stop) → StepEnds (shared_in exit) (IsShared (shared_in exit)) (Err why)
+    stops_with : (why : Stop) → StepEnds (shared_in exit) (IsShared (shared_in exit)) (Err why)
         → UnlessMemory Barred why → UnlessMemory (StopsPlay entry exit f) why
-    stops (stop.Spill j) underway barred = stopped (stop.Spill j) (λ e. cc) underway barred
-    stops (stop.Form t) underway barred = stopped (stop.Form t) (λ e. cc) underway barred
-    stops (stop.Pivots j) underway barred = stopped (stop.Pivots j) (λ e. cc) underway barred
-    stops stop.Memory underway barred = tt
+    stops_with (stop.Spill j) underway barred = stopped (stop.Spill j) (λ e. cc) underway barred
+    stops_with (stop.Form t) underway barred = stopped (stop.Form t) (λ e. cc) underway barred
+    stops_with (stop.Pivots j) underway barred = stopped (stop.Pivots j) (λ e. cc) underway barred
+    stops_with stop.Memory underway barred = tt
+
+    pub stops : (result : Result State Stop)
+        → StepEnds (shared_in exit) (IsShared (shared_in exit)) result
+        → IfErr result (UnlessMemory Barred)
+        → IfErr result (UnlessMemory (StopsPlay entry exit f))
+    stops (Ok state) done barred = barred
+    stops (Err why) underway barred = stops_with why underway barred
 
 -- ---- memory is wanting
 
@@ -222,3 +223,8 @@ pub gives_same : (entry mid : Sharing Simplex) (f : Formula)
     → mid ≡ record entry { graph = mid.graph } → GivesMore entry.theory mid.theory f
 gives_same entry mid f rest fs among given =
     subst (IsGivenBy fs) (sym (ap (λ (s : Sharing Simplex). s.theory) rest)) given
+
+pub sound_same : (entry mid : Sharing Simplex) → mid ≡ record entry { graph = mid.graph }
+    → IsSimplex entry.theory → IsSimplex mid.theory
+sound_same entry mid rest =
+    subst IsSimplex (sym (ap (λ (s : Sharing Simplex). s.theory) rest))

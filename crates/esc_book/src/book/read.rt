@@ -8,11 +8,14 @@ ghost use Rattle.esc_book.specs.Atom.{IsAtomAt, IsAtomOf, IsDistinctAt, IsGroupO
 ghost use Rattle.esc_book.specs.Book.{IsBook, IsLiveOccurrence};
 
 use crate::atom::Atom;
+use crate::atoms::{atom_of, equation_of, formula_of, group_of};
 use crate::book::Book;
 use crate::expanded::Expanded;
+use crate::expanding::expanded_entry;
+use crate::page::{Place, locate};
 use esc_clause::Occurrence;
 use esc_egraph::{EGraph, Node};
-use esc_term::Item;
+use esc_term::{Formula, Item};
 use std::alloc::AllocError;
 
 impl Book {
@@ -22,7 +25,14 @@ impl Book {
         requires live { IsLiveOccurrence self.now at }
         ensures { IfOk result (λ e. expansion_of e ≡ expanded self.now.logged at) }
     {
-        Ok(Expanded::Literal)
+        let Some(page) = self.page(at.fact) else {
+            return Ok(Expanded::Literal);
+        };
+        match locate(page, at.place) {
+            Place::Entry(index) => expanded_entry(self.alloc, page, index, at),
+            Place::Pair(_, _) => Ok(Expanded::Literal),
+            Place::Nowhere => Ok(Expanded::Literal),
+        }
     }
 
     /// What the atom says of which the occurrence is.
@@ -33,7 +43,14 @@ impl Book {
         ensures { (g : Graph) → IsBook g self.now
             → IsAtomOf g (formula_at self.now.logged at) result }
     {
-        Atom::Distinct
+        let Some(page) = self.page(at.fact) else {
+            return Atom::Distinct;
+        };
+        match locate(page, at.place) {
+            Place::Entry(index) => atom_of(page, index),
+            Place::Pair(a, b) => Atom::Equal(a, b),
+            Place::Nowhere => Atom::Distinct,
+        }
     }
 
     /// The nodes of the terms of the distinction of which the occurrence is.
@@ -44,7 +61,16 @@ impl Book {
         ensures { (g : Graph) → IsBook g self.now
             → IsGroupOf g (formula_at self.now.logged at) result.now }
     {
-        unreachable!()
+        let Some(page) = self.page(at.fact) else {
+            unreachable!()
+        };
+        let Place::Entry(index) = locate(page, at.place) else {
+            unreachable!()
+        };
+        match group_of(page, index) {
+            Some(nodes) => nodes,
+            None => unreachable!(),
+        }
     }
 
     /// The atom there with the sign of the occurrence. It fails only where memory is wanting.
@@ -54,6 +80,26 @@ impl Book {
         requires atom { IsAtomAt self.now.logged at }
         ensures { IfOk result (λ item. item_at self.now.logged at ≡ Some item) }
     {
-        Err(AllocError)
+        Ok(Item {
+            formula: self.formula(graph, at)?,
+            positive: at.positive,
+        })
+    }
+
+    /// The atom there. It fails only where memory is wanting.
+    fn formula(&self, graph: &EGraph, at: Occurrence) -> Result<Formula, AllocError>
+        requires book { IsBook graph.now self.now }
+        requires live { IsLiveOccurrence self.now at }
+        requires atom { IsAtomAt self.now.logged at }
+        ensures { IfOk result (λ f. formula_at self.now.logged at ≡ Some f) }
+    {
+        let Some(page) = self.page(at.fact) else {
+            return Err(AllocError);
+        };
+        match locate(page, at.place) {
+            Place::Entry(index) => formula_of(self.alloc, graph, page, index),
+            Place::Pair(a, b) => equation_of(graph, a, b),
+            Place::Nowhere => Err(AllocError),
+        }
     }
 }
