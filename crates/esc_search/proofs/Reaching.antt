@@ -156,14 +156,6 @@ kept_here base s os search = record {
   limits = refl;
 }
 
--- a split more, of which one is open
-pub nearer_split : (base : Base) (s t : Search) (os ps : List OpenSplit) → IsKept base s t
-    → length s.splits < s.limits.splits → length t.splits ≡ length s.splits + 1
-    → length ps ≡ length os + 1 → steps_left t ps < steps_left s os
-nearer_split base s t os ps kept few splits waits =
-    let limit = ap (λ (l : Limits). l.splits) kept.limits in
-    omega (arith, limit, few, splits, waits)
-
 -- an open split less
 pub nearer_back : (base : Base) (s t : Search) (os ps : List OpenSplit) → IsKept base s t
     → t.splits ≡ s.splits → length os ≡ length ps + 1 → steps_left t ps < steps_left s os

@@ -34,7 +34,7 @@ use Rattle.esc_refine.specs.Refining.{SplitsAt}
 use Rattle.esc_sharing.proofs.Lists.{All-each}
 use Rattle.esc_search.specs.Proving.{branch_of}
 use Rattle.esc_search.specs.SearchInside.{IsOlder, IsOpenHere, IsSearch, IsToDecide, IsWaiting}
-use Rattle.esc_search.specs.SearchInside.{WasDecided, WasSplit, formulas_under}
+use Rattle.esc_search.specs.SearchInside.{WasDecided, WasSplit, formulas_under, steps_left}
 use Rattle.esc_search.specs.declared.open_split.OpenSplit.{OpenSplit}
 use Rattle.esc_search.specs.declared.search.Search.{Search}
 use Rattle.esc_search.proofs.Climbing.{AreAlike, IsAmong, climbs_alike, climbs_push}
@@ -208,3 +208,15 @@ module _ (base : Base) (s : Search) (os : List OpenSplit) (search : IsSearch bas
     made_to_decide =
         subst₂ (λ a n. IsToDecide base (record s { splits = a; under = Some (n, true) }) at true)
         (sym pushed) (sym numbered) split_to_decide
+
+    pub nearer_made : (waiting : List OpenSplit)
+        → waiting ≡ os ++ record { mark = mark; number = number; split = new } ∷ []
+        → length s.splits < s.limits.splits → steps_left made waiting < steps_left s os
+    nearer_made waiting waits more = omega (
+      arith,
+      more,
+      ap length pushed,
+      length_push s.splits new,
+      ap length waits,
+      length_push os (record { mark = mark; number = number; split = new }),
+    )

@@ -10,7 +10,7 @@ ghost use Rattle.esc_search.specs.SearchInside.{Begins, IsBegun, IsKept, IsLogge
 
 use crate::search::Search;
 use esc_egraph::State;
-use esc_fact::{Base, Fact, formula_of};
+use esc_fact::{Base, Fact, fact_laws, formula_of};
 use esc_simplex::Stop;
 use std::alloc::AllocError;
 
@@ -24,15 +24,18 @@ impl Search {
         ensures log { OnOk result (self.new.log ≡ self.old.log ++ fact ∷ []) }
         ensures kept { IsKept base.now self.old self.new }
     {
+        fact_laws();
         let len = self.log.list().len();
         let formula = formula_of(self.alloc, base, &fact)?;
         self.sides.push(None)?;
         self.log.add(fact)?;
-        if self.branch.log(formula).is_err() {
-            self.log.cut(len);
-            return Err(AllocError);
+        match self.branch.log(formula) {
+            Ok(()) => Ok(()),
+            Err(error) => {
+                self.log.cut(len);
+                Err(error)
+            }
         }
-        Ok(())
     }
 
     /// Logs the facts that name a formula of the base. It fails only where memory is wanting.
@@ -51,9 +54,10 @@ impl Search {
         self.log_first(base, Fact::NegGoal)
     }
 
-    /// Asserts the next fact of the log.
-    fn assert_next(&mut self, base: &Base) -> Result<State, Stop>
+    /// Asserts the next fact of the log, which stands at this place.
+    fn assert_next(&mut self, base: &Base, place: usize) -> Result<State, Stop>
         requires logged { IsLogged base.now self.old }
+        requires place { place ≡ length self.old.branch.book.live }
         requires more { length self.old.branch.book.live < length self.old.log }
         ensures begins { Begins base.now self.new result }
         ensures live { result ≡ Ok state.Open → length self.new.branch.book.live
@@ -62,7 +66,6 @@ impl Search {
         ensures kept { IsKept base.now self.old self.new }
     {
         let _base = base;
-        let place = self.branch.book.live().len();
         self.branch.assert(place, &mut self.trail)
     }
 
@@ -75,8 +78,10 @@ impl Search {
         ensures kept { IsKept base.now self.old self.new }
     {
         'facts: while self.branch.book.live().len() < self.log.list().len() {
-            if self.assert_next(base)? == State::Closed {
-                return Ok(State::Closed);
+            let place = self.branch.book.live().len();
+            match self.assert_next(base, place)? {
+                State::Open => (),
+                State::Closed => return Ok(State::Closed),
             }
         }
         Ok(State::Open)
@@ -92,9 +97,9 @@ impl Search {
             ≤ length self.new.branch.book.live }
         ensures kept { IsKept base.now self.old self.new }
     {
-        if self.log_all(base).is_err() {
-            return Err(Stop::Memory);
+        match self.log_all(base) {
+            Ok(()) => self.assert_all(base),
+            Err(_) => Err(Stop::Memory),
         }
-        self.assert_all(base)
     }
 }

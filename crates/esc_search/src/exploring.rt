@@ -70,8 +70,8 @@ impl Search {
         requires more { length self.old.splits < self.old.limits.splits }
         ensures search { OnOk result (IsSearch base.now self.new waiting.new) }
         ensures ready { OnOk result (IsToDecide base.now self.new at true) }
-        ensures splits { OnOk result (length self.new.splits ≡ length self.old.splits + 1) }
-        ensures waits { OnOk result (length waiting.new ≡ length waiting.old + 1) }
+        ensures nearer { OnOk result (steps_left self.new waiting.new
+            < steps_left self.old waiting.old) }
         ensures kept { IsKept base.now self.old self.new }
     {
         let _base = base;

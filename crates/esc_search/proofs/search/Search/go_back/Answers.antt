@@ -17,9 +17,10 @@ returns-in-None-clause-kept c =
     kept_here c.args.base.now c.args.self.now c.args.waiting.now c.requires.here.0
 
 pub other_side-requires : goal.other_side-requires
-other_side-requires c =
-    subst (λ os. IsAt c.args.base.now c.args.self.now os state.Closed) c.in-Some.ensures
-    c.requires.here
+other_side-requires c = record {
+  here = subst (λ os. IsAt c.args.base.now c.args.self.now os state.Closed) c.in-Some.ensures
+      c.requires.here;
+}
 
 pub returns-in-Some-clause-nearer : goal.returns-in-Some-clause-nearer
 returns-in-Some-clause-nearer c =

@@ -1,10 +1,11 @@
-use Rattle.std.proofs.Common.{subst}
 use Rattle.esc_search.specs.SearchInside.{steps_left}
-use Rattle.esc_search.proofs.Reaching.{kept_both, kept_here, nearer_split}
+use Rattle.esc_search.proofs.Reaching.{kept_both}
 use Rattle.esc_search.proofs.search.Search.split.Goals as goal
 
 pub returns-in-Ok-clause-nearer : goal.returns-in-Ok-clause-nearer
-returns-in-Ok-clause-nearer c = ?
+returns-in-Ok-clause-nearer c =
+    c.take_side.ensures.nearer (steps_left c.args.self.now c.args.waiting.now)
+    c.in-Ok.ensures.nearer
 
 pub returns-in-Ok-clause-kept : goal.returns-in-Ok-clause-kept
 returns-in-Ok-clause-kept c =
