@@ -225,6 +225,14 @@ pub logs_new : (old now : List Fact) (f : Fact) (new : Bool) → (Contains old f
 logs_new old now f true none h = h.1
 logs_new old now f false none h = absurd (none h.0)
 
+pub cut_back : (old now : List Fact) (f : Fact) (len : ℕ) → len ≡ length old
+    → now ≡ old ++ f ∷ [] → take len now ≡ old
+cut_back old now f len l e = ap₂ take l e ∙ take-append_seam old (f ∷ [])
+
+pub cut_within : (old now : List Fact) (f : Fact) (len : ℕ) → len ≡ length old
+    → now ≡ old ++ f ∷ [] → len ≤ length now
+cut_within old now f len l e = omega (arith, l, ap length e, length_push old f)
+
 -- ---- the facts in order
 
 module _ (base : Base) where

@@ -15,6 +15,20 @@ use esc_simplex::Stop;
 use std::alloc::AllocError;
 
 impl Search {
+    /// How many facts are logged.
+    fn count(&self) -> usize
+        ensures { result ≡ length self.now.log }
+    {
+        self.log.list().len()
+    }
+
+    /// How many facts are live.
+    fn live_count(&self) -> usize
+        ensures { result ≡ length self.now.branch.book.live }
+    {
+        self.branch.book.live().len()
+    }
+
     /// Logs the next fact that names a formula of the base. It fails only where memory is wanting.
     fn log_first(&mut self, base: &Base, fact: Fact) -> Result<(), AllocError>
         requires closed { IsClosedBase base.now }
@@ -25,10 +39,11 @@ impl Search {
         ensures kept { IsKept base.now self.old self.new }
     {
         fact_laws();
-        let len = self.log.list().len();
+        let len = self.count();
         let formula = formula_of(self.alloc, base, &fact)?;
         self.sides.push(None)?;
-        self.log.add(fact)?;
+        let added = self.log.add(fact)?;
+        let _ = added;
         match self.branch.log(formula) {
             Ok(()) => Ok(()),
             Err(error) => {
@@ -47,9 +62,9 @@ impl Search {
         ensures logged { OnOk result (IsLogged base.now self.new) }
         ensures kept { IsKept base.now self.old self.new }
     {
-        'background: while self.log.list().len() < base.background.len() {
-            let place = self.log.list().len() as u64;
-            self.log_first(base, Fact::Given(place))?;
+        'background: while self.count() < base.background.len() {
+            let place = self.count();
+            self.log_first(base, Fact::Given(place as u64))?;
         }
         self.log_first(base, Fact::NegGoal)
     }
@@ -77,11 +92,12 @@ impl Search {
             ≤ length self.new.branch.book.live }
         ensures kept { IsKept base.now self.old self.new }
     {
-        'facts: while self.branch.book.live().len() < self.log.list().len() {
-            let place = self.branch.book.live().len();
-            match self.assert_next(base, place)? {
-                State::Open => (),
-                State::Closed => return Ok(State::Closed),
+        'facts: while self.live_count() < self.count() {
+            let place = self.live_count();
+            match self.assert_next(base, place) {
+                Ok(State::Open) => (),
+                Ok(State::Closed) => return Ok(State::Closed),
+                Err(stop) => return Err(stop),
             }
         }
         Ok(State::Open)
