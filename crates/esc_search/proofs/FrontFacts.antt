@@ -3,7 +3,7 @@ use Rattle.std.proofs.Common.{◌≡◌, ◌⊎◌, ℕ, ◌<◌, ◌≤◌, ◌
 use Rattle.std.proofs.Common.{zero, Option, Some, None, Result, Ok, Err, length, map, take, drop, get_or}
 use Rattle.std.proofs.Common.{append-nil, append_assoc, refl, sym, ap, ap₂, subst, subst₂, ◌∙◌, inl, inr}
 use Rattle.std.proofs.Common.{arith, zero-add}
-use Rattle.std.specs.Prelude.{IsSome, IsSomeAnd, slice_get}
+use Rattle.std.specs.Prelude.{IsSome, IsSomeAnd, OnOk, slice_get}
 use Rattle.std.specs.List.{All, Contains, cons_option, filter_map, flat_map, range_with_len}
 use Rattle.std.specs.Option.{option_and_then, option_map}
 use Rattle.std.proofs.lemmas.List.{get_or_append_left, length_push, length-take, map_push}
@@ -269,3 +269,16 @@ module _ (base : Base) where
   pub whole_log : (s : Search) → IsBegun base s → length (first_facts base) ≤ length s.log
       → s.log ≡ first_facts base
   whole_log s begun all = begun.log ∙ take_all (length s.log) (first_facts base) all
+
+  -- the last one
+  pub logged_last : {X E : Type 0} (s t : Search) (r : Result X E) → IsSome base.negated
+      → length s.log ≡ length base.background → OnOk r (IsBegun base t)
+      → OnOk r (t.log ≡ s.log ++ fact.NegGoal ∷ []) → OnOk r (IsLogged base t)
+  logged_last s t (Ok u) goal all begun log = (begun, whole_log t begun (omega (
+    arith,
+    ap length log,
+    length_push s.log fact.NegGoal,
+    all,
+    first_count goal,
+  )))
+  logged_last s t (Err e) goal all begun log = tt

@@ -73,6 +73,8 @@ filter_map-more h xs i x below is =
     ∙ (filter_map-append h (take i xs) (get_or xs i x ∷ [])
     ∙ ap (λ y. filter_map h (take i xs) ++ cons_option (h y) []) (sym is))
 
+pub ruleset one_more = (filter_map-more)
+
 -- ---- elements by what they are read as
 
 cons_both : {X Y : Type 0} (h : X → Option Y) (o : Option X) (xs : List X)

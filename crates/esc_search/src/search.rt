@@ -1,6 +1,7 @@
 //! A search for a refutation, through the branches that splits make.
 
-ghost use Rattle.std.specs.Prelude.{◌≡◌, IfOk};
+ghost use Rattle.std.specs.Prelude.{◌≡◌, ◌++◌, [], IfOk, OnOk, slice_get};
+ghost use Rattle.std.specs.List.{cons_option};
 ghost use Rattle.std.specs.Option.{IsSome};
 ghost use Rattle.esc_fact.specs.Fact.{formulas_of};
 ghost use Rattle.esc_fact.specs.Legal.{IsClosedBase};
@@ -16,7 +17,7 @@ use esc_live::{LiveBranch, LiveRec};
 use esc_outcome::{Limits, Side, Sides, Splits};
 use esc_term::{Copied, Formulas};
 use esc_trail::Trail;
-use sqlite_items::Items;
+use sqlite_items::{Items, at};
 use std::alloc::{AllocError, Global};
 
 /// The branch at hand with its undo stack, and what belongs to all branches: the log of facts, the
@@ -83,15 +84,25 @@ impl Search {
         &self.branch
     }
 
+    /// Puts the fact at a place of the log, if there is one, at the end of the list.
+    fn push_fact(&self, place: usize, facts: &mut Facts) -> Result<(), AllocError>
+        ensures { OnOk result (facts.new
+            ≡ facts.old ++ cons_option (slice_get self.now.log place) []) }
+    {
+        match at(self.log.list(), place) {
+            Some(fact) => facts.push(fact.copied(self.alloc)?),
+            None => Ok(()),
+        }
+    }
+
     /// The facts that are live on the branch at hand. It fails only where memory is wanting.
+    #[tactic(auto, using(crate::proofs::LiveFacts::one_more))]
     pub fn live(&self) -> Result<Facts, AllocError>
         ensures { IfOk result (λ facts. facts ≡ live_facts self.now) }
     {
         let mut facts = Items::new(self.alloc);
         'live: for place in self.branch.book.live() {
-            if let Some(fact) = self.log.list().get(*place) {
-                facts.push(fact.copied(self.alloc)?)?;
-            }
+            self.push_fact(*place, &mut facts)?;
         }
         Ok(facts)
     }

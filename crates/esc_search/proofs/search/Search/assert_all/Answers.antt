@@ -1,4 +1,6 @@
-use Rattle.std.proofs.Common.{refl}
+use Rattle.std.proofs.Common.{Ok, refl, subst}
+use Rattle.esc_egraph.specs.declared.state.State.{State}
+use Rattle.esc_search.specs.SearchInside.{Begins}
 use Rattle.esc_search.proofs.Reaching.{kept_both}
 use Rattle.esc_search.proofs.search.Search.assert_all.Goals as goal
 
@@ -14,7 +16,8 @@ facts-init c = record {
 
 pub facts-preserved : goal.facts-preserved
 facts-preserved c = record {
-  logged = c.in-Ok-Open.ensures.begins;
+  logged = subst (λ (x : State). Begins c.args.base.now c.assert_next.new.self (Ok x))
+      c.in-Ok-Open.field-0-is c.in-Ok-Open.ensures.begins;
   kept = kept_both c.args.base.now c.args.self.now c.facts.self c.assert_next.new.self
       c.facts.invariant.kept c.assert_next.ensures.kept;
 }

@@ -3,7 +3,7 @@ use Rattle.std.specs.Prelude.{slice_get}
 use Rattle.std.proofs.lemmas.List.{length_push}
 use Rattle.esc_fact.specs.Legal.{first_facts}
 use Rattle.esc_fact.specs.declared.fact.Fact.TheVariants as fact
-use Rattle.esc_search.proofs.FrontFacts.{first_count, given_next, goal_next, whole_log}
+use Rattle.esc_search.proofs.FrontFacts.{first_count, given_next, goal_next, logged_last}
 use Rattle.esc_search.proofs.Reaching.{kept_both}
 use Rattle.esc_search.proofs.search.Search.log_all.Goals as goal
 
@@ -24,3 +24,14 @@ log_first-requires-clause-next c =
     ≡ Some (fact.Given k)) (sym c.count-place.ensures)
     (given_next c.args.base.now (length c.background.self.log)
     (omega (arith, c.count.ensures, c.len.ensures)))
+
+pub log_first-requires-2-clause-next : goal.log_first-requires-2-clause-next
+log_first-requires-2-clause-next c =
+    goal_next c.args.base.now (length c.background.self.log) c.requires.goal
+    (omega (arith, c.background.invariant.few, c.count.ensures, c.len.ensures))
+
+pub returns-clause-logged : goal.returns-clause-logged
+returns-clause-logged c =
+    logged_last c.args.base.now c.background.self c.log_first-2.new.self c.log_first-2.result
+    c.requires.goal (omega (arith, c.background.invariant.few, c.count.ensures, c.len.ensures))
+    c.log_first-2.ensures.begun c.log_first-2.ensures.log
