@@ -1,6 +1,7 @@
 //! A search for a refutation, through the branches that splits make.
 
-ghost use Rattle.std.specs.Prelude.{◌≡◌, IfOk};
+ghost use Rattle.std.specs.Prelude.{◌≡◌, ◌++◌, [], IfOk, OnOk, slice_get};
+ghost use Rattle.std.specs.List.{cons_option};
 ghost use Rattle.std.specs.Option.{IsSome};
 ghost use Rattle.esc_fact.specs.Fact.{formulas_of};
 ghost use Rattle.esc_fact.specs.Legal.{IsClosedBase};
@@ -10,12 +11,13 @@ ghost use Rattle.esc_live.specs.View.{logged};
 ghost use Rattle.esc_search.specs.Proving.{ComesTo, IsReady, live_facts};
 
 use crate::outcome::Outcome;
+use esc_egraph::State;
 use esc_fact::{Base, Fact, FactLog, Facts};
 use esc_live::{LiveBranch, LiveRec};
 use esc_outcome::{Limits, Side, Sides, Splits};
-use esc_term::Formulas;
+use esc_term::{Copied, Formulas};
 use esc_trail::Trail;
-use sqlite_items::Items;
+use sqlite_items::{Items, at};
 use std::alloc::{AllocError, Global};
 
 /// The branch at hand with its undo stack, and what belongs to all branches: the log of facts, the
@@ -61,7 +63,11 @@ impl Search {
         ensures formulas { logged self.new.branch ≡ formulas_of base.now self.new.log }
         ensures limits { self.new.limits ≡ self.old.limits }
     {
-        Outcome::Memory
+        match self.begin(base) {
+            Ok(State::Open) => self.explore(base),
+            Ok(State::Closed) => Outcome::Closed,
+            Err(stop) => self.stopped_by(base, stop),
+        }
     }
 
     /// The facts that were used, in order.
@@ -78,11 +84,27 @@ impl Search {
         &self.branch
     }
 
+    /// Puts the fact at a place of the log, if there is one, at the end of the list.
+    fn push_fact(&self, place: usize, facts: &mut Facts) -> Result<(), AllocError>
+        ensures { OnOk result (facts.new
+            ≡ facts.old ++ cons_option (slice_get self.now.log place) []) }
+    {
+        match at(self.log.list(), place) {
+            Some(fact) => facts.push(fact.copied(self.alloc)?),
+            None => Ok(()),
+        }
+    }
+
     /// The facts that are live on the branch at hand. It fails only where memory is wanting.
+    #[tactic(auto, using(crate::proofs::LiveFacts::one_more))]
     pub fn live(&self) -> Result<Facts, AllocError>
         ensures { IfOk result (λ facts. facts ≡ live_facts self.now) }
     {
-        Err(AllocError)
+        let mut facts = Items::new(self.alloc);
+        'live: for place in self.branch.book.live() {
+            self.push_fact(*place, &mut facts)?;
+        }
+        Ok(facts)
     }
 
     /// Ends the search, and gives the facts of its log and their formulas. It fails only where
@@ -90,6 +112,8 @@ impl Search {
     pub fn into_log(self) -> Result<(Facts, Formulas), AllocError>
         ensures { IfOk result (λ pair. (pair.0 ≡ self.log) × (pair.1 ≡ logged self.branch)) }
     {
-        Err(AllocError)
+        let facts = self.facts()?;
+        let formulas = self.branch.book.formulas().copied(self.alloc)?;
+        Ok((facts, formulas))
     }
 }
