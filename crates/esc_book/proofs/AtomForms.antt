@@ -11,8 +11,8 @@ use Rattle.esc_term.specs.declared.formula.Quant.{Quant}
 use Rattle.esc_egraph.specs.Graph.{Graph}
 use Rattle.esc_sharing.specs.Unquantified.{is_quantified_form}
 use Rattle.esc_book.specs.Atom.{is_atom_form}
-use Rattle.esc_book.specs.Book.{Constant, Conjunction, Disjunction, Negation, Implication, Form}
-use Rattle.esc_book.specs.Book.{Equivalence, Labelled, Equation, Order, Distinction, Quantified}
+use Rattle.esc_book.specs.Book.{Form}
+use Rattle.esc_book.specs.Book.{Equation, Order, Distinction, Quantified}
 use Rattle.esc_book.specs.Book.{form_at, told_kind}
 use Rattle.esc_book.specs.ReadingInside.{IsAtomKind}
 use Rattle.esc_book.specs.declared.entry.Kind.{Kind}

@@ -1,5 +1,5 @@
 -- A fact that becomes live, with the record that takes it back.
-use Rattle.std.proofs.Common.{◌≡◌, ℕ, ◌<◌, List, [], ◌∷◌, ◌++◌, length, ap₂, arith, length-append}
+use Rattle.std.proofs.Common.{◌≡◌, ℕ, List, [], ◌∷◌, ◌++◌, ap₂, arith, length-append}
 use Rattle.esc_trail.specs.Undo.{Notes}
 use Rattle.esc_trail.proofs.Ends.{take-append_last}
 use Rattle.esc_trail.proofs.Noting.{notes_one}

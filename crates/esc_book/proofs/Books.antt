@@ -1,23 +1,22 @@
 -- Books whose log grows or is cut, whose facts become live, and over more terms.
 use Rattle.std.proofs.Common.{◌≡◌, ◌⊎◌, inl, inr, ℕ, suc, zero, ◌+◌, ◌<◌, ◌≤◌, List, [], ◌∷◌, ◌++◌}
-use Rattle.std.proofs.Common.{Some, None, Option, length, map, take, get_or, refl, ap, ap₂, sym}
+use Rattle.std.proofs.Common.{Some, length, map, take, get_or, refl, ap, ap₂, sym}
 use Rattle.std.proofs.Common.{subst}
 use Rattle.std.proofs.Common.{◌∙◌, Ok, Err, Result, OnErr, OnOk, append-nil, arith, length-append}
 use Rattle.std.proofs.lemmas.List.{take_all}
-use Rattle.std.proofs.lemmas.List.Elements.{All-contains, All-head, All-nil, All-push, All-tail}
+use Rattle.std.proofs.lemmas.List.Elements.{All-contains, All-head, All-push, All-tail}
 use Rattle.std.proofs.lemmas.List.Elements.{All-weaker, Contains-get_or}
 use Rattle.std.proofs.lemmas.List.Quantifiers.{all_pairs_push}
-use Rattle.std.proofs.lemmas.Option.{slice_get-get_or, slice_get_past}
+use Rattle.std.proofs.lemmas.Option.{slice_get-get_or}
 use Rattle.std.specs.List.{All, AllPairs, Contains, slice_get}
 use Rattle.esc_term.specs.declared.term.Term.{Term}
-use Rattle.esc_term.specs.declared.term.Term.TheVariants as term
 use Rattle.esc_term.specs.declared.formula.Formula.{Formula}
-use Rattle.esc_branch.proofs.Together.{length-terms_of}
+use Rattle.esc_node_terms.proofs.Places.{length-terms_of}
 use Rattle.esc_nodes.specs.Terms.{at_place, term_of}
 use Rattle.esc_egraph.specs.Graph.{Graph}
 use Rattle.esc_sharing.specs.Nodes.{node_count, node_term, terms_in}
 use Rattle.esc_book.specs.Book.{BookView, Distinction, Equation, HasNodes, IsBook, IsPage, Order}
-use Rattle.esc_book.specs.Book.{Page, page_of, told, told_kind}
+use Rattle.esc_book.specs.Book.{Page, told, told_kind}
 use Rattle.esc_book.specs.declared.entry.Entry.{Entry}
 use Rattle.esc_book.specs.declared.entry.Kind.{Kind}
 use Rattle.esc_book.specs.declared.entry.Kind.TheVariants as kind

@@ -1,12 +1,11 @@
 -- What formula an entry is of, and where its parts have theirs.
-use Rattle.std.proofs.Common.{◌≡◌, ◌⊎◌, inl, inr, ℕ, ◌+◌, ◌<◌, Bool, true, false, List, [], ◌∷◌, ◌++◌}
-use Rattle.std.proofs.Common.{Some, Option, length, map, get_or, refl, ap, ap₂, sym, subst, ◌∙◌, arith}
+use Rattle.std.proofs.Common.{◌≡◌, ◌⊎◌, inl, inr, ℕ, ◌+◌, ◌<◌, Bool, true, false, List, []}
+use Rattle.std.proofs.Common.{◌∷◌, ◌++◌, Some, length, get_or, refl, ap, sym, subst, ◌∙◌, arith}
 use Rattle.std.proofs.lemmas.List.{append-nil}
 use Rattle.std.proofs.lemmas.List.Elements.{All-get_or}
-use Rattle.std.specs.List.{All, flat_map, slice_get}
+use Rattle.std.specs.List.{flat_map, slice_get}
 use denote.Hole.Carrier.{roll}
 use Rattle.esc_term.specs.declared.term.Sym.{Sym}
-use Rattle.esc_term.specs.declared.term.Term.{Term}
 use Rattle.esc_term.specs.declared.formula.Formula.{Formula}
 use Rattle.esc_term.specs.declared.formula.Formula.TheVariants as formula
 use Rattle.esc_term.specs.declared.formula.Formula.TheOpen.{Formula-F}
@@ -16,15 +15,14 @@ use Rattle.esc_term.specs.declared.formula.Quant.{Quant}
 use Rattle.esc_egraph.specs.Graph.{Graph}
 use Rattle.esc_book.specs.Book.{Constant, Conjunction, Disjunction, Negation, Implication, Form}
 use Rattle.esc_book.specs.Book.{Equivalence, Labelled, Equation, Order, Distinction, Quantified}
-use Rattle.esc_book.specs.Book.{HasNodes, IsPage, Outline, form_at, heads_of, told, told_kind}
+use Rattle.esc_book.specs.Book.{HasNodes, IsPage, Outline, form_at, heads_of, told_kind}
 use Rattle.esc_book.specs.JudgingInside.{AreBetween, HasNoParts, of_parts}
-use Rattle.esc_book.specs.ReadingInside.{AreThere}
 use Rattle.esc_book.specs.declared.entry.Entry.{Entry}
 use Rattle.esc_book.specs.declared.entry.Kind.{Kind}
 use Rattle.esc_book.specs.declared.entry.Kind.TheVariants as kind
 use Rattle.esc_book.proofs.HeadsLevels as heads
 use Rattle.esc_book.proofs.Nested.{first_there, heads_whole, later_there, parts_there}
-use Rattle.esc_book.proofs.Reading.{next_there, read}
+use Rattle.esc_book.proofs.Reading.{read}
 
 -- ---- forms
 

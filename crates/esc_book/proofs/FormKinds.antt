@@ -1,5 +1,5 @@
 -- What each form of formula is written as.
-use Rattle.std.proofs.Common.{◌≡◌, ◌<◌, ℕ, Bool, true, false, List, map, ap, ap₂, sym, subst, ◌∙◌}
+use Rattle.std.proofs.Common.{◌≡◌, ◌<◌, ℕ, true, false, List, map, ap, ap₂, sym, ◌∙◌}
 use Rattle.std.specs.List.{All}
 use denote.Hole.Carrier.{roll}
 use Rattle.esc_term.specs.declared.term.Sym.{Sym}
@@ -14,7 +14,6 @@ use Rattle.esc_egraph.specs.Graph.{Graph}
 use Rattle.esc_sharing.specs.Nodes.{node_count, node_term}
 use Rattle.esc_book.specs.Book.{Equation, Order, Distinction, Quantified, form_at}
 use Rattle.esc_book.specs.WritingInside.{IsKindOf}
-use Rattle.esc_book.specs.declared.entry.Kind.{Kind}
 use Rattle.esc_book.specs.declared.entry.Kind.TheVariants as kind
 
 module _ (g : Graph) (f : Formula) where

@@ -1,7 +1,7 @@
 -- A formula that is written before what stands behind it, and formulas that are written in turn.
 use Rattle.std.proofs.Common.{◌≡◌, ℕ, ◌+◌, ◌<◌, List, [], ◌∷◌, ◌++◌, length, take, drop, set}
 use Rattle.std.proofs.Common.{get_or}
-use Rattle.std.proofs.Common.{Ok, Err, Result, IfOk, refl, ap, ap₂, sym, subst, ◌∙◌, arith}
+use Rattle.std.proofs.Common.{Ok, Err, Result, IfOk, ap, ap₂, sym, subst, ◌∙◌, arith}
 use Rattle.std.proofs.Common.{length-append}
 use Rattle.std.proofs.lemmas.List.{append-nil, take_more}
 use Rattle.std.proofs.lemmas.List.Concat.{flat_map-append}

@@ -1,15 +1,14 @@
 -- What is judged of an occurrence, by what stands at its place.
-use Rattle.std.proofs.Common.{◌≡◌, ℕ, ◌<◌, Bool, true, false, not, List, Some, None, Option, length}
+use Rattle.std.proofs.Common.{◌≡◌, ℕ, ◌<◌, Bool, true, false, List, Some, None, Option, length}
 use Rattle.std.proofs.Common.{get_or, if◌then◌else◌, refl, ap, sym, subst, ◌∙◌}
 use Rattle.std.proofs.lemmas.List.Elements.{All-get_or, Contains-get_or}
 use Rattle.std.proofs.lemmas.Option.{slice_get-get_or}
-use Rattle.std.specs.List.{All, Contains, slice_get}
+use Rattle.std.specs.List.{Contains, slice_get}
 use Rattle.std.specs.Option.{option_and_then, option_map, option_map_or}
 use Rattle.esc_term.specs.declared.formula.Formula.{Formula}
 use Rattle.esc_term.specs.declared.formula.Formula.TheVariants as formula
 use Rattle.esc_clause.specs.Occurrences.{formula_at, occurrences_of, signed}
 use Rattle.esc_clause.specs.declared.occurrence.Occurrence.{Occurrence}
-use Rattle.esc_clause.specs.declared.truth.Truth.{Truth}
 use Rattle.esc_clause.specs.declared.truth.Truth.TheVariants.{Open}
 use Rattle.esc_egraph.specs.Graph.{Graph}
 use Rattle.esc_book.specs.Book.{BookView, IsBook, IsPage, Page, is_live}

@@ -1,7 +1,7 @@
 -- The formulas of live occurrences, by the tables of their facts.
-use Rattle.std.proofs.Common.{◌≡◌, ℕ, ◌<◌, Bool, true, false, List, [], Some, None, Option, Ok, Err}
+use Rattle.std.proofs.Common.{◌≡◌, ℕ, ◌<◌, true, false, List, [], Some, None, Option, Ok, Err}
 use Rattle.std.proofs.Common.{Result, IfOk, refl, ap, sym, subst, ◌∙◌}
-use Rattle.std.specs.List.{Contains, slice_get}
+use Rattle.std.specs.List.{slice_get}
 use Rattle.std.specs.Option.{IsSome, IsSomeAnd, option_and_then, option_map_or}
 use denote.Hole.Carrier.{roll}
 use Rattle.esc_term.specs.declared.term.Term.{Term}

@@ -1,6 +1,6 @@
 -- What stands at a place of a formula, by its table.
 use Rattle.std.proofs.Common.{◌≡◌, ℕ, nat_le, true, false, suc, ◌+◌, ◌-◌, ◌<◌, ◌≤◌, List, [], ◌∷◌}
-use Rattle.std.proofs.Common.{◌++◌, Some, None, Option, length, map, get_or, refl, ap, sym, subst}
+use Rattle.std.proofs.Common.{Some, None, Option, length, map, get_or, refl, ap, sym, subst}
 use Rattle.std.proofs.Common.{◌∙◌, arith}
 use Rattle.std.proofs.lemmas.Bool.{leb-false, leb-true}
 use Rattle.std.proofs.lemmas.List.Elements.{All-append, All-cons, All-head, All-nil, All-tail}
@@ -8,11 +8,13 @@ use Rattle.std.proofs.lemmas.Option.{slice_get-get_or}
 use Rattle.std.specs.List.{All, slice_get}
 use Rattle.std.specs.List.Sorted.{IsPartitionPoint}
 use Rattle.std.specs.Option.{option_map}
+use denote.Hole.Carrier.{roll}
 use Rattle.esc_term.specs.declared.term.Term.{Term}
 use Rattle.esc_term.specs.declared.formula.Formula.{Formula}
 use Rattle.esc_term.specs.declared.formula.Formula.TheVariants as formula
 use Rattle.esc_term.specs.declared.formula.Formula.TheOpen.{Formula-F}
-use Rattle.esc_term.specs.declared.formula.Formula.TheViews.{out-Formula}
+use Rattle.esc_term.specs.declared.formula.Formula.TheViews.{out-Formula, out-roll-Formula}
+use Rattle.esc_term.specs.declared.formula.Formula.TheViews.{roll-Formula}
 use Rattle.esc_term.specs.declared.formula.Quant.{Quant}
 use Rattle.esc_cover.specs.Atoms.{pair_equations}
 use Rattle.esc_clause.specs.Occurrences.{occurrences_of}
@@ -27,6 +29,7 @@ use Rattle.esc_book.specs.declared.entry.Kind.{Kind}
 use Rattle.esc_book.specs.declared.entry.Kind.TheVariants as kind
 use Rattle.esc_book.specs.declared.page.Place.{Place}
 use Rattle.esc_book.specs.declared.page.Place.TheVariants as place
+use Rattle.esc_book.proofs.EntryForms.{of_form}
 use Rattle.esc_book.proofs.Nested.{heads_first, occurrences_of-heads}
 use Rattle.esc_book.proofs.Pairs.{pair_equations-map, slice_get-map}
 use Rattle.esc_book.proofs.Reading.{get-within, length-page, own_at, read}
@@ -59,23 +62,6 @@ module _ (P : ℕ → Type 0) where
       (all_pairs nodes (All-tail P a nodes all))
 
 -- ---- distinctions by their entries
-
-pub form_Distinct : (ts : List Term) (y : Formula-F Formula Quant) → form_at y ≡ Distinction ts
-    → y ≡ Formula-F.Distinct ts
-form_Distinct ts Formula-F.True e = cc
-form_Distinct ts Formula-F.False e = cc
-form_Distinct ts (Formula-F.And parts) e = cc
-form_Distinct ts (Formula-F.Or parts) e = cc
-form_Distinct ts (Formula-F.Not part) e = cc
-form_Distinct ts (Formula-F.Implies left right) e = cc
-form_Distinct ts (Formula-F.Iff left right) e = cc
-form_Distinct ts (Formula-F.Forall quant) e = cc
-form_Distinct ts (Formula-F.Exists quant) e = cc
-form_Distinct ts (Formula-F.Eq s t) e = cc
-form_Distinct ts (Formula-F.Less s t) e = cc
-form_Distinct ts (Formula-F.Distinct us) e = cc
-form_Distinct ts (Formula-F.LabelPos name part) e = cc
-form_Distinct ts (Formula-F.LabelNeg name part) e = cc
 
 pub other_kind : (g : Graph) (k : Kind) (ts : List Term)
     → ((nodes : List ℕ) → k ≡ kind.Distinction nodes → ⊥) → told_kind g k ≡ Distinction ts → ⊥
@@ -208,6 +194,7 @@ module _ (g : Graph) (f : Formula) (page : List Entry) (is : IsPage g f page) (a
     pub pair_located : (nodes : List ℕ) (k : ℕ) (p : Place) → e.kind ≡ kind.Distinction nodes
         → at ≡ e.begin + 1 + k → p ≡ pair_place (slice_get (node_pairs nodes) k)
         → IsLocated g f page at p
+    unfolding roll-Formula roll
     pair_located nodes k p of_kind parted found =
         subst (IsLocated g f page at) (sym found) (by (slice_get (node_pairs nodes) k) refl)
       where
@@ -216,8 +203,10 @@ module _ (g : Graph) (f : Formula) (page : List Entry) (is : IsPage g f page) (a
 
         pairs : pairs_form (out-Formula here.of) ≡ pair_equations (map (node_term g) nodes)
         pairs =
-            ap pairs_form (form_Distinct (map (node_term g) nodes) (out-Formula here.of)
-            (sym here.form ∙ ap (told_kind g) of_kind))
+            let ts : List Term = map (node_term g) nodes in
+            let same : here.of ≡ formula.Distinct ts =
+            of_form (Distinction ts) here.of (ap (told_kind g) (sym of_kind) ∙ here.form) in
+            ap pairs_form (ap out-Formula same ∙ out-roll-Formula (Formula-F.Distinct ts))
 
         equal : slice_get (occurrences_of f) at
             ≡ option_map equation (slice_get (node_pairs nodes) k)

@@ -1,7 +1,7 @@
 -- The pairs of a group by their numbers.
-use Rattle.std.proofs.Common.{◌≡◌, ℕ, nat_le, true, false, suc, zero, ◌+◌, ◌-◌, ◌*◌, ◌<◌, ◌≤◌, List}
+use Rattle.std.proofs.Common.{◌≡◌, ℕ, nat_le, true, false, suc, zero, ◌+◌, ◌-◌, ◌<◌, ◌≤◌, List}
 use Rattle.std.proofs.Common.{[], ◌∷◌, ◌++◌, Some}
-use Rattle.std.proofs.Common.{None, Option, length, map, take, drop, get_or, refl, ap, ap₂, sym}
+use Rattle.std.proofs.Common.{None, length, map, take, drop, get_or, refl, ap, ap₂, sym}
 use Rattle.std.proofs.Common.{subst}
 use Rattle.std.proofs.Common.{◌∙◌, append_assoc, arith, length-append}
 use Rattle.std.proofs.lemmas.Bool.{leb-false, leb-true}

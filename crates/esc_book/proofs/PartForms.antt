@@ -12,12 +12,12 @@ use Rattle.esc_term.specs.declared.formula.Formula.TheOpen.{Formula-F}
 use Rattle.esc_term.specs.declared.formula.Formula.TheViews.{out-Formula, out-roll-Formula}
 use Rattle.esc_term.specs.declared.formula.Formula.TheViews.{roll-Formula}
 use Rattle.esc_term.specs.declared.formula.Quant.{Quant}
-use Rattle.esc_clause.specs.Expansion.{AllOf, Expansion, Literal, Never, OneOfEach, expanded_form}
+use Rattle.esc_clause.specs.Expansion.{AllOf, Expansion, Literal, OneOfEach, expanded_form}
 use Rattle.esc_clause.specs.Expansion.{from_place, parts_at}
 use Rattle.esc_clause.specs.declared.occurrence.Occurrence.{Occurrence}
 use Rattle.esc_egraph.specs.Graph.{Graph}
 use Rattle.esc_sharing.specs.Nodes.{node_term}
-use Rattle.esc_book.specs.Book.{IsPage, heads_of, own, pairs_form}
+use Rattle.esc_book.specs.Book.{IsPage, heads_of, pairs_form}
 use Rattle.esc_book.specs.JudgingInside.{AreBetween}
 use Rattle.esc_book.specs.ReadingInside.{AreThere, begin_at, both_from, expanded_to, settled_as}
 use Rattle.esc_book.specs.declared.entry.Entry.{Entry}

@@ -17,6 +17,7 @@ use Rattle.esc_term.specs.declared.formula.Item.{Item}
 use Rattle.esc_term.specs.Equal.{same_item, same_item-is}
 use Rattle.esc_clause.specs.Occurrences.{formula_at, item_at, occurrences_of, signed}
 use Rattle.esc_clause.specs.declared.occurrence.Occurrence.{Occurrence}
+use Rattle.esc_branch.proofs.Leaders.{or-false}
 use Rattle.esc_cover.proofs.TestLemmas.{false_from, not_both}
 use Rattle.esc_cover.specs.Cover.{by_literal, is_literal}
 use Rattle.esc_egraph.specs.Graph.{Graph}
@@ -31,7 +32,6 @@ use Rattle.esc_book.specs.declared.page.Place.TheVariants as place
 use Rattle.esc_book.specs.declared.entry.Kind.{Kind}
 use Rattle.esc_book.specs.declared.entry.Kind.TheVariants as kind
 use Rattle.esc_book.proofs.EntryForms.{of_form}
-use Rattle.esc_book.proofs.SaidParts.{or_false}
 use denote.Hole.Carrier.{roll}
 
 quantified_rolled : (y : Formula-F Formula Quant) → is_quantified_form y ≡ true
@@ -71,7 +71,8 @@ told_quantified g (kind.Order a b) f e = cc
 told_quantified g (kind.Distinction nodes) f e = cc
 told_quantified g (kind.Quantified h) f e = let same : h ≡ f = cc in ap kind.Quantified same
 
-module _ (g : Graph) (k : Kind) (f s : Formula) (quantified : is_quantified_form (out-Formula f) ≡ true)
+module _ (g : Graph) (k : Kind) (f s : Formula)
+    (quantified : is_quantified_form (out-Formula f) ≡ true)
     (is : told_kind g k ≡ form_at (out-Formula s)) where
   pub kind_same : k ≡ kind.Quantified f → s ≡ f
   kind_same e = sym (of_form (Quantified f) s (sym (ap (told_kind g) e) ∙ is)).0
@@ -132,7 +133,7 @@ module _ (v : BookView) (f : Formula) where
         ∙ (list_any-append (same_item (signed p f)) (items_of v (take i ats))
         (signed at.positive h ∷ [])
         ∙ ap (λ b. is_literal (items_of v (take i ats)) f p || b)
-        (or_false (same_item (signed p f) (signed at.positive h))))
+        (or-false (same_item (signed p f) (signed at.positive h))))
 
     pub literal_same : (before after : Said) → h ≡ f
         → SaysAs before (by_literal (items_of v (take i ats)) f)
@@ -167,7 +168,7 @@ module _ (v : BookView) (f : Formula) where
             → before ≡ is_literal (items_of v (take i ats)) f p
             → after ≡ is_literal (items_of v (take (i + 1) ats)) f p
         one p after before is was =
-            is ∙ (was ∙ (sym (or_false (is_literal (items_of v (take i ats)) f p))
+            is ∙ (was ∙ (sym (or-false (is_literal (items_of v (take i ats)) f p))
             ∙ (ap (λ b. is_literal (items_of v (take i ats)) f p || b)
             (sym (other_formula at.positive p h differ)) ∙ sym (more_literal p))))
 

@@ -1,21 +1,20 @@
 -- What is read of a table.
 use Rattle.std.proofs.Common.{◌≡◌, ℕ, suc, zero, ◌+◌, ◌-◌, ◌<◌, ◌≤◌, List, [], ◌∷◌, ◌++◌, Some}
-use Rattle.std.proofs.Common.{None}
-use Rattle.std.proofs.Common.{Option, length, map, take, drop, get_or, refl, ap, ap₂, sym, subst}
+use Rattle.std.proofs.Common.{length, map, take, drop, get_or, refl, ap, ap₂, sym}
 use Rattle.std.proofs.Common.{◌∙◌}
 use Rattle.std.proofs.Common.{arith, length-append}
-use Rattle.std.proofs.lemmas.List.{append-nil, length-map, take-append-drop, take_at, drop-drop}
+use Rattle.std.proofs.lemmas.List.{append-nil, length-map}
 use Rattle.std.proofs.lemmas.List.Concat.{flat_map-append}
-use Rattle.std.proofs.lemmas.Option.{slice_get-get_or, slice_get_past}
+use Rattle.std.proofs.lemmas.Option.{slice_get-get_or}
 use Rattle.std.specs.List.{flat_map, slice_get}
 use Rattle.std.specs.List.Sorted.{IsNonDecreasingBy}
 use Rattle.std.specs.Option.{option_map}
 use Rattle.esc_term.specs.declared.formula.Formula.{Formula}
 use Rattle.esc_term.specs.declared.formula.Formula.TheVariants as formula
 use Rattle.esc_term.specs.declared.formula.Formula.TheViews.{out-Formula}
-use Rattle.esc_clause.specs.Occurrences.{occurrences_of, size_of}
+use Rattle.esc_clause.specs.Occurrences.{size_of}
 use Rattle.esc_egraph.specs.Graph.{Graph}
-use Rattle.esc_book.specs.Book.{IsPage, Outline, form_at, heads_of, laid, own, page_of, told}
+use Rattle.esc_book.specs.Book.{IsPage, Outline, form_at, heads_of, own, told}
 use Rattle.esc_book.specs.declared.entry.Entry.{Entry}
 use Rattle.esc_book.proofs.Laying.{laid-get, length-laid, outline_at}
 use Rattle.esc_book.proofs.Nested.{occurrences_of-heads}

@@ -1,9 +1,10 @@
 -- What is said of formulas one after the other, whose entries stand side by side.
-use Rattle.std.proofs.Common.{◌≡◌, ℕ, suc, zero, ◌+◌, ◌<◌, ◌≤◌, Bool, true, false, ◌&&◌, ◌||◌}
-use Rattle.std.proofs.Common.{List, [], ◌∷◌, ◌++◌, Some, length, refl, ap, ap₂, sym, subst, ◌∙◌, arith}
+use Rattle.std.proofs.Common.{◌≡◌, ℕ, ◌+◌, ◌<◌, ◌≤◌, Bool, true, false, ◌&&◌, ◌||◌}
+use Rattle.std.proofs.Common.{List, [], ◌∷◌, Some, length, refl, ap, ap₂, sym, ◌∙◌, arith}
 use Rattle.std.proofs.Common.{length-append}
-use Rattle.std.specs.List.{flat_map, list_all, list_any, slice_get}
+use Rattle.std.specs.List.{flat_map, slice_get}
 use Rattle.esc_term.specs.declared.formula.Formula.{Formula}
+use Rattle.esc_branch.proofs.Leaders.{or-false}
 use Rattle.esc_cover.proofs.CoverLevels.{cover-And, cover-Or}
 use Rattle.esc_cover.specs.Cover.{Cover}
 use Rattle.esc_said.specs.Speaking.{SaysAs}
@@ -26,10 +27,6 @@ and_true : (a : Bool) → (a && true) ≡ a
 and_true true = refl
 and_true false = refl
 
-pub or_false : (a : Bool) → (a || false) ≡ a
-or_false true = refl
-or_false false = refl
-
 abbrev cover_of : Bool → Bool → Cover
 cover_of h f = record { holds = h; fails = f }
 
@@ -41,8 +38,8 @@ joined_assoc false c d e =
     ap₂ cover_of (or_assoc c.holds d.holds e.holds) (and_assoc c.fails d.fails e.fails)
 
 joined_none : (all : Bool) (c : Cover) → joined all c (of_none all) ≡ c
-joined_none true c = ap₂ cover_of (and_true c.holds) (or_false c.fails)
-joined_none false c = ap₂ cover_of (or_false c.holds) (and_true c.fails)
+joined_none true c = ap₂ cover_of (and_true c.holds) (or-false c.fails)
+joined_none false c = ap₂ cover_of (or-false c.holds) (and_true c.fails)
 
 none_joined : (all : Bool) (c : Cover) → joined all (of_none all) c ≡ c
 none_joined true c = refl

@@ -1,7 +1,7 @@
 -- What is written behind a table.
-use Rattle.std.proofs.Common.{◌≡◌, ℕ, suc, zero, ◌+◌, ◌-◌, ◌<◌, ◌≤◌, List, [], ◌∷◌, ◌++◌, Some}
+use Rattle.std.proofs.Common.{◌≡◌, ℕ, ◌+◌, ◌-◌, List, [], ◌∷◌, ◌++◌}
 use Rattle.std.proofs.Common.{length}
-use Rattle.std.proofs.Common.{take, drop, map, set, refl, ap, ap₂, sym, subst, ◌∙◌, arith}
+use Rattle.std.proofs.Common.{map, set, refl, ap, ap₂, sym, subst, ◌∙◌, arith}
 use Rattle.std.proofs.Common.{append_assoc, length-append}
 use Rattle.std.proofs.lemmas.List.{append-nil, length-map, map-append, set-append_right}
 use Rattle.std.proofs.lemmas.List.Concat.{flat_map-append}
@@ -10,8 +10,8 @@ use Rattle.std.specs.List.{All, flat_map}
 use Rattle.esc_term.specs.declared.formula.Formula.{Formula}
 use Rattle.esc_term.specs.declared.formula.Formula.TheViews.{out-Formula}
 use Rattle.esc_egraph.specs.Graph.{Graph}
-use Rattle.esc_book.specs.Book.{HasNodes, IsPage, form_at, heads_of, laid, own, pairs_form, told}
-use Rattle.esc_book.specs.Book.{Outline, told_kind}
+use Rattle.esc_book.specs.Book.{HasNodes, IsPage, heads_of, laid, own, pairs_form, told}
+use Rattle.esc_book.specs.Book.{Outline}
 use Rattle.esc_book.specs.WritingInside.{IsKindOf, Writes}
 use Rattle.esc_book.specs.declared.entry.Entry.{Entry}
 use Rattle.esc_book.specs.declared.entry.Kind.{Kind}

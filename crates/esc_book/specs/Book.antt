@@ -1,7 +1,7 @@
 -- What contracts see of a book: the log, the facts of it that are live, and for each of these a
 -- flat table of the occurrences in its formula.
 use Rattle.std.specs.Prelude.{◌≡◌, ℕ, ◌+◌, ◌<◌, ◌==◌, Bool, true, false, List, [], ◌∷◌, ◌++◌, map}
-use Rattle.std.specs.Prelude.{length, Option, Some, slice_get}
+use Rattle.std.specs.Prelude.{length, Some, slice_get}
 use Rattle.std.specs.List.{All, AllPairs, Contains, filter_map, flat_map, list_any}
 use Rattle.std.specs.Option.{IsSome}
 use Rattle.esc_term.specs.declared.term.Term.{Term}

@@ -37,12 +37,19 @@ pub struct Book {
 }
 
 impl Model for Book {
-    ghost use Rattle.esc_book.specs.Book.{BookView};
-    ghost use Rattle.esc_book.specs.BookInside.{coded_view, view_of};
+    ghost use Rattle.std.specs.Coded.{code_by, codes};
+    ghost use Rattle.std.specs.Prelude.{ℕ, List, refl};
+    ghost use Rattle.esc_term.specs.declared.formula.Formula.{Formula};
+    ghost use Rattle.esc_term.specs.contracts.formula.Formula as formula;
+    ghost use Rattle.esc_book.specs.Book.{BookView, Page};
+    ghost use Rattle.esc_book.specs.BookInside.{of_parts, parts_of, view_of};
+    ghost use Rattle.esc_book.specs.contracts.entry.Entry as entry;
 
     ghost Value = { BookView };
 
-    ghost coded = { coded_view };
+    ghost coded = { code_by (List Formula × List ℕ × List Page)
+        (Prim.hlevel (codes, formula.the_row.coded, entry.the_row.coded)) parts_of of_parts
+        (λ v. refl) };
 
     ghost view = { view_of };
 }

@@ -1,6 +1,6 @@
 //! What is said of the formulas of entries.
 
-ghost use Rattle.std.specs.Prelude.{◌≡◌, ◌↔◌, IsTrue, true, false, List, Some, slice_get};
+ghost use Rattle.std.specs.Prelude.{◌≡◌, ◌↔◌, IsTrue, true, List, Some, slice_get};
 ghost use Rattle.esc_term.specs.declared.formula.Formula.{Formula};
 ghost use Rattle.esc_term.specs.declared.formula.Formula.TheViews.{out-Formula};
 ghost use Rattle.esc_clause.specs.Occurrences.{formula_at};
@@ -8,10 +8,11 @@ ghost use Rattle.esc_cover.specs.Cover.{Cover, by_literal};
 ghost use Rattle.esc_egraph.specs.Graph.{Graph};
 ghost use Rattle.esc_sharing.specs.Unquantified.{is_quantified_form};
 ghost use Rattle.esc_said.specs.Speaking.{SaysAs};
-ghost use Rattle.esc_book.specs.Book.{HasNodes, IsLiveOccurrence, IsPage, form_at, heads_of, told_kind};
+ghost use Rattle.esc_book.specs.Book.{HasNodes, IsLiveOccurrence, IsPage, form_at, heads_of};
+ghost use Rattle.esc_book.specs.Book.{told_kind};
 ghost use Rattle.esc_book.specs.Judging.{IsReady, literals_for};
-ghost use Rattle.esc_book.specs.JudgingInside.{AreBetween, HasEntries, HasNoParts, IsEntryAt, cover_by};
-ghost use Rattle.esc_book.specs.JudgingInside.{joined, of_none, of_parts};
+ghost use Rattle.esc_book.specs.JudgingInside.{AreBetween, HasEntries, HasNoParts, IsEntryAt};
+ghost use Rattle.esc_book.specs.JudgingInside.{cover_by, joined, of_none, of_parts};
 ghost use Rattle.esc_book.specs.declared.entry.Kind.TheVariants.{Quantified};
 
 use crate::entry::{Entry, Kind};
@@ -62,7 +63,8 @@ impl<'a> BookJudge<'a> {
         requires ready { IsReady self.now }
         requires there { HasEntries self.now.saying.graph.now page.now from to }
         ensures { (f : Formula) (ps : List Formula) → IsPage self.now.saying.graph.now f page.now
-            → AreBetween (heads_of f) from to ps → SaysAs result (cover_by self.now (of_parts all ps)) }
+            → AreBetween (heads_of f) from to ps
+            → SaysAs result (cover_by self.now (of_parts all ps)) }
     {
         let mut said = of_no_parts(all);
         let mut index = from;
@@ -77,7 +79,8 @@ impl<'a> BookJudge<'a> {
     fn said_of_kind(&self, kind: &Kind) -> Said
         requires ready { IsReady self.now }
         requires nodes { HasNodes self.now.saying.graph.now kind.now }
-        ensures { (s : Formula) → told_kind self.now.saying.graph.now kind.now ≡ form_at (out-Formula s)
+        ensures { (s : Formula)
+            → told_kind self.now.saying.graph.now kind.now ≡ form_at (out-Formula s)
             → HasNoParts kind.now → SaysAs result (cover_by self.now s) }
     {
         match kind {

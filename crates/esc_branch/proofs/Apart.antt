@@ -36,7 +36,8 @@ use Rattle.esc_egraph.specs.Congruence.{AreUnequalNumerals, ForcedApart, Joins}
 use Rattle.esc_egraph.specs.Graph.{number_of}
 use Rattle.esc_distinct.specs.Groups.{AreApart, HoldsApart}
 use Rattle.esc_branch.specs.declared.branch.Branch.{Branch}
-use Rattle.esc_branch.specs.View.{IsBranch, classes_in, denied, literals_in, term_at, told_apart}
+use Rattle.esc_branch.specs.View.{IsBranch, classes_in, literals_in, term_at}
+use Rattle.esc_node_terms.specs.LiteralForms.{denied, told_apart}
 use Rattle.esc_branch.proofs.Places.{some_two_at, some_two_found}
 use Rattle.esc_branch.proofs.Together.{nodes_of_together, together_of_nodes}
 

@@ -19,7 +19,8 @@ use Rattle.esc_branch.specs.declared.branch.Branch.{Branch}
 use Rattle.esc_branch.specs.View.{IsBranch, class_number, same_in, term_at, terms_in}
 use Rattle.esc_branch.proofs.Leaders.{list_any-leaders, or-false}
 use Rattle.esc_branch.proofs.Listing.{AreRising, map-picked}
-use Rattle.esc_branch.proofs.Together.{class_number-term_at, length-terms_of, same_in-equivalence}
+use Rattle.esc_branch.proofs.Together.{class_number-term_at, same_in-equivalence}
+use Rattle.esc_node_terms.proofs.Places.{length-terms_of}
 
 -- an earlier node than the `i`th stands in the class of a node
 abbrev pub has_earlier : Branch → ℕ → ℕ → Bool

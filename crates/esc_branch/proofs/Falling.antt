@@ -1,15 +1,8 @@
 -- Parts are smaller than their whole, by the size that the walk over a formula goes by.
-use Rattle.std.proofs.Common.{◌≡◌, ℕ, ◌+◌, ◌*◌, ◌<◌, ◌⊎◌, inl, inr, List, length, map, sum, get_or}
+use Rattle.std.proofs.Common.{◌≡◌, ℕ, ◌+◌, ◌*◌, ◌<◌, ◌⊎◌, inl, inr, List, map, sum}
 use Rattle.std.proofs.Common.{ap, arith}
-use Rattle.std.proofs.lemmas.List.Sums.{get_or-le-sum_by, sum-map}
 use denote.Hole.Carrier.{roll}
 use Rattle.esc_term.specs.declared.term.Sym.{Sym}
-use Rattle.esc_term.specs.declared.term.Head.{Head}
-use Rattle.esc_term.specs.declared.term.Term.{Term}
-use Rattle.esc_term.specs.declared.term.Term.TheVariants as term
-use Rattle.esc_term.specs.declared.term.Term.TheOpen.{Term-F}
-use Rattle.esc_term.specs.declared.term.Term.TheViews.{roll-Term}
-use Rattle.esc_term.specs.declared.term.Term.TheFolds.{fold-Term, fold-roll-Term}
 use Rattle.esc_term.specs.declared.formula.Formula.{Formula}
 use Rattle.esc_term.specs.declared.formula.Formula.TheVariants.{And, Or, Not, Implies, Iff}
 use Rattle.esc_term.specs.declared.formula.Formula.TheVariants.{LabelPos, LabelNeg}
@@ -17,14 +10,7 @@ use Rattle.esc_term.specs.declared.formula.Formula.TheOpen.{Formula-F}
 use Rattle.esc_term.specs.declared.formula.Formula.TheViews.{roll-Formula}
 use Rattle.esc_term.specs.declared.formula.Formula.TheFolds.{fold-Formula, fold-roll-Formula}
 
--- ---- how much stands in a term and in a formula
-
-abbrev pub term_step : Term-F ℕ → ℕ
-term_step (Term-F.App head args) = 1 + sum args
-term_step _ = 1
-
-unfoldable pub term_size : Term → ℕ
-term_size = fold-Term ℕ term_step
+-- ---- how much stands in a formula
 
 abbrev pub formula_step : Formula-F ℕ Unit → ℕ
 formula_step (Formula-F.And parts) = 1 + sum parts
@@ -38,11 +24,6 @@ formula_step _ = 1
 
 unfoldable pub formula_size : Formula → ℕ
 formula_size = fold-Formula ℕ Unit formula_step (λ quant. tt)
-
-term_size-App : (head : Head) (ts : List Term) →
-    term_size (term.App head ts) ≡ 1 + sum (map term_size ts)
-unfolding term_size roll-Term roll
-term_size-App head ts = fold-roll-Term ℕ term_step (Term-F.App head ts)
 
 formula_size-And : (fs : List Formula) → formula_size (And fs) ≡ 1 + sum (map formula_size fs)
 unfolding formula_size roll-Formula roll
@@ -79,17 +60,6 @@ formula_size-LabelNeg name f = fold-roll-Formula ℕ Unit formula_step (λ quant
     (Formula-F.LabelNeg name f)
 
 -- ---- what falls
-
--- one of a list
-pub falls-item : {X : Type 0} (size : X → ℕ) (xs : List X) (i : ℕ) (x : X) → i < length xs →
-    x ≡ get_or xs i x → 2 * size x < 1 + 2 * sum (map size xs)
-falls-item size xs i x within is =
-    omega (arith, ap size is, get_or-le-sum_by size xs i x within, sum-map size xs)
-
-pub falls-args : (t : Term) (head : Head) (args ts : List Term) → t ≡ term.App head args →
-    ts ≡ args → 1 + 2 * sum (map term_size ts) < 2 * term_size t
-falls-args t head args ts is same =
-    omega (arith, ap term_size is, term_size-App head args, ap (λ us. sum (map term_size us)) same)
 
 module _ (f : Formula) where
   pub falls-part : (g part : Formula) →

@@ -7,10 +7,8 @@ pub mod Finest
 pub mod Growing
 pub mod Leaders
 pub mod Listing
-pub mod LiteralForms
 pub mod Marking
 pub mod NodeTests
-pub mod Once
 pub mod Outcomes
 pub mod Passing
 pub mod Places
@@ -18,6 +16,5 @@ pub mod Saying
 pub mod Steps
 pub mod Telling
 pub mod Together
-pub mod TwoPlaces
 pub mod Values
 pub mod Walking

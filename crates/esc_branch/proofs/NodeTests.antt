@@ -1,20 +1,15 @@
 -- Nodes in one class, and their terms in one class.
-use Rattle.std.proofs.Common.{◌≡◌, ℕ, ℤ, ◌<◌, true, List, length, map, refl, ap, sym, subst, ◌∙◌}
+use Rattle.std.proofs.Common.{◌≡◌, ℕ, ◌<◌, true, length, refl, ap, sym, subst, ◌∙◌}
 use Rattle.std.specs.List.{Contains}
 use Rattle.esc_term.specs.declared.term.Term.{Term}
-use Rattle.esc_term.specs.declared.term.Term.TheVariants as term
-use Rattle.esc_term.proofs.Parts.{apart_Num}
 use Rattle.esc_union.specs.Merges.{SameClass}
 use Rattle.esc_cover.specs.Classes.{together}
-use Rattle.esc_nodes.specs.Nodes.{AreTerms, Shape, shape_at}
-use Rattle.esc_nodes.specs.Terms.{built, term_of}
-use Rattle.esc_nodes.specs.declared.top.Top.{Top}
-use Rattle.esc_nodes.specs.declared.top.Top.TheVariants.{Num, App}
-use Rattle.esc_nodes.proofs.NodeTerms.{terms_are_built, terms_are_once}
+use Rattle.esc_nodes.proofs.NodeTerms.{terms_are_once}
 use Rattle.esc_egraph.specs.Graph.{IsGraph, number_of}
 use Rattle.esc_branch.specs.declared.branch.Branch.{Branch}
 use Rattle.esc_branch.specs.View.{classes_in, term_at, terms_in}
-use Rattle.esc_branch.proofs.Together.{node_of_term, nodes_of_together, together_of_nodes}
+use Rattle.esc_branch.proofs.Together.{nodes_of_together, together_of_nodes}
+use Rattle.esc_node_terms.proofs.Places.{node_of_term}
 
 module _ (v : Branch) (graph : IsGraph v.graph) where
   pub together_at : (a b : ℕ) → a < length v.graph.nodes → b < length v.graph.nodes →
@@ -38,16 +33,3 @@ module _ (v : Branch) (graph : IsGraph v.graph) where
   together_itself t h =
       let at = node_of_term v.graph.nodes t h in
       subst (λ u. together (classes_in v) u u ≡ true) at.2 (together_at at.0 at.0 at.1 at.1 refl)
-
-numeral_built : (of : ℕ → Term) (top : Top) (args : List ℕ) (n : ℤ) →
-    built of top args ≡ term.Num n → top ≡ Num n
-numeral_built of (Num m) args n e = cc
-numeral_built of (App head) args n e = absurd (apart_Num n head (map of args) (sym e))
-
--- the top of a numeral's node
-pub top-numeral : (nodes : List Shape) → AreTerms nodes → (k : ℕ) → k < length nodes → (n : ℤ) →
-    term_of nodes k ≡ term.Num n →
-    (shape_at nodes k).top ≡ Num n
-top-numeral nodes are k l n e =
-    numeral_built (term_of nodes) (shape_at nodes k).top (shape_at nodes k).args n
-    (sym (terms_are_built nodes are k l) ∙ e)

@@ -27,17 +27,18 @@ use Rattle.esc_distinct.specs.Groups.{AreBroken}
 use Rattle.esc_union.specs.Merges.{class_number}
 use Rattle.esc_branch.specs.declared.branch.Branch.{Branch}
 use Rattle.esc_branch.specs.Steps.{Asserted, IsClosedBy, covers}
-use Rattle.esc_branch.specs.View.{IsBranch, classes_in, cover_in, denied, equated, literals_in}
-use Rattle.esc_branch.specs.View.{play_in, term_at, terms_in, told_apart}
+use Rattle.esc_branch.specs.View.{IsBranch, classes_in, cover_in, literals_in}
+use Rattle.esc_node_terms.specs.LiteralForms.{denied, equated, told_apart}
+use Rattle.esc_branch.specs.View.{play_in, term_at, terms_in}
 use Rattle.esc_branch.proofs.Agreeing.{IsTold, agreeing}
-use Rattle.esc_branch.proofs.LiteralForms.{out-Distinct, out-Eq}
+use Rattle.esc_node_terms.proofs.LiteralForms.{out-Distinct, out-Eq}
 use Rattle.esc_branch.proofs.NodeTests.{together_itself}
 use Rattle.esc_branch.proofs.Steps.{forbidding, forbidding_classes, grouping, grouping_classes}
 use Rattle.esc_branch.proofs.Steps.{joined, joined_stays, least_forbidding, least_grouping}
 use Rattle.esc_branch.proofs.Steps.{least_joined, told_forbidding, told_grouping, told_joined}
-use Rattle.esc_branch.proofs.TwoPlaces.{every_two_at, every_two_from, some_two_at}
+use Rattle.esc_node_terms.proofs.TwoPlaces.{every_two_at, every_two_from, some_two_at}
 use Rattle.esc_branch.proofs.Values.{branch_has_one_value, not_broken, not_twice}
-use Rattle.esc_branch.proofs.Values.{values_are_congruent, values_equal}
+use Rattle.esc_node_terms.proofs.Values.{values_are_congruent, values_equal}
 
 -- ---- what the branch says already
 

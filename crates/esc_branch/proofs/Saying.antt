@@ -14,7 +14,8 @@ use Rattle.esc_cover.specs.Cover.{Cover, by_literal, is_forced_apart, is_literal
 use Rattle.esc_cover.proofs.CoverLevels.{cover-Eq, cover-Exists, cover-Forall, cover-Less}
 use Rattle.esc_cover.proofs.TestLemmas.{false_from, literal_found, not_both}
 use Rattle.esc_branch.specs.declared.branch.Branch.{Branch}
-use Rattle.esc_branch.specs.View.{IsBranch, classes_in, cover_in, is_branch_form, literals_in}
+use Rattle.esc_branch.specs.View.{IsBranch, classes_in, cover_in, literals_in}
+use Rattle.esc_node_terms.specs.LiteralForms.{is_class_form}
 
 pub holds-Eq : (v : Branch) (s t : Term) →
     (cover_in v (formula.Eq s t)).holds ≡ together (classes_in v) s t
@@ -30,18 +31,18 @@ abbrev pub neither : Cover
 neither = record { holds = false; fails = false }
 
 module _ (v : Branch) (is : IsBranch v) where
-  no_literal : (f : Formula) (positive : Bool) → is_branch_form (out-Formula f) positive ≡ false →
+  no_literal : (f : Formula) (positive : Bool) → is_class_form (out-Formula f) positive ≡ false →
       is_literal (literals_in v) f positive ≡ false
   no_literal f positive none =
       false_from (is_literal (literals_in v) f positive) (λ e.
-      not_both (is_branch_form (out-Formula f) positive)
+      not_both (is_class_form (out-Formula f) positive)
       (All-contains
-      (λ (item : Item). IsTrue (is_branch_form (out-Formula item.formula) item.positive))
+      (λ (item : Item). IsTrue (is_class_form (out-Formula item.formula) item.positive))
       (literals_in v) (record { formula = f; positive = positive })
       is.forms (literal_found (literals_in v) f positive e)) none)
 
-  nothing_by_literal : (f : Formula) → is_branch_form (out-Formula f) true ≡ false →
-      is_branch_form (out-Formula f) false ≡ false → by_literal (literals_in v) f ≡ neither
+  nothing_by_literal : (f : Formula) → is_class_form (out-Formula f) true ≡ false →
+      is_class_form (out-Formula f) false ≡ false → by_literal (literals_in v) f ≡ neither
   nothing_by_literal f held failed =
       ap (λ b. record { holds = b; fails = is_literal (literals_in v) f false })
       (no_literal f true held)
@@ -52,24 +53,24 @@ module _ (v : Branch) (is : IsBranch v) where
   nothing-Forall q =
       cover-Forall (literals_in v) (classes_in v) q
       ∙ nothing_by_literal (formula.Forall q)
-      (ap (λ form. is_branch_form form true) (out-roll-Formula (Formula-F.Forall q)))
-      (ap (λ form. is_branch_form form false) (out-roll-Formula (Formula-F.Forall q)))
+      (ap (λ form. is_class_form form true) (out-roll-Formula (Formula-F.Forall q)))
+      (ap (λ form. is_class_form form false) (out-roll-Formula (Formula-F.Forall q)))
 
   nothing-Exists : (q : Quant) → cover_in v (formula.Exists q) ≡ neither
   unfolding roll-Formula roll
   nothing-Exists q =
       cover-Exists (literals_in v) (classes_in v) q
       ∙ nothing_by_literal (formula.Exists q)
-      (ap (λ form. is_branch_form form true) (out-roll-Formula (Formula-F.Exists q)))
-      (ap (λ form. is_branch_form form false) (out-roll-Formula (Formula-F.Exists q)))
+      (ap (λ form. is_class_form form true) (out-roll-Formula (Formula-F.Exists q)))
+      (ap (λ form. is_class_form form false) (out-roll-Formula (Formula-F.Exists q)))
 
   nothing-Less : (s t : Term) → cover_in v (formula.Less s t) ≡ neither
   unfolding roll-Formula roll
   nothing-Less s t =
       cover-Less (literals_in v) (classes_in v) s t
       ∙ nothing_by_literal (formula.Less s t)
-      (ap (λ form. is_branch_form form true) (out-roll-Formula (Formula-F.Less s t)))
-      (ap (λ form. is_branch_form form false) (out-roll-Formula (Formula-F.Less s t)))
+      (ap (λ form. is_class_form form true) (out-roll-Formula (Formula-F.Less s t)))
+      (ap (λ form. is_class_form form false) (out-roll-Formula (Formula-F.Less s t)))
 
   pub nothing_said : (f : Formula)
       → ((q : Quant) × (f ≡ formula.Forall q)) ⊎

@@ -17,16 +17,19 @@ use Rattle.esc_egraph.specs.Congruence.{EqualWith, IsLeast}
 use Rattle.esc_egraph.specs.Graph.{IsGraph, number_of}
 use Rattle.esc_union.specs.Merges.{class_number}
 use Rattle.esc_branch.specs.declared.branch.Branch.{Branch}
-use Rattle.esc_branch.specs.View.{IsBranch, classes_in, denied, equated, is_branch_form, play_in}
-use Rattle.esc_branch.specs.View.{same_in, term_at, terms_in, told_apart}
+use Rattle.esc_branch.specs.View.{IsBranch, classes_in, play_in}
+use Rattle.esc_node_terms.specs.LiteralForms.{denied, equated, is_class_form, told_apart}
+use Rattle.esc_branch.specs.View.{same_in, term_at, terms_in}
 use Rattle.esc_branch.proofs.Agreeing.{IsTold}
-use Rattle.esc_branch.proofs.Finest.{closed_for_fewer, congruence_in, finest_of, least_still}
+use Rattle.esc_branch.proofs.Finest.{closed_for_fewer, least_still}
+use Rattle.esc_node_terms.proofs.Finest.{congruence_in, finest_of}
 use Rattle.esc_branch.proofs.Finest.{of_together_in, together_in, together_passes}
-use Rattle.esc_branch.proofs.LiteralForms.{apart_no_denied, denied_no_apart, equated_no_apart}
-use Rattle.esc_branch.proofs.LiteralForms.{equated_no_denied, form-Distinct, form-Eq, same_apart}
-use Rattle.esc_branch.proofs.LiteralForms.{same_denied, same_equated}
+use Rattle.esc_node_terms.proofs.LiteralForms.{apart_no_denied, denied_no_apart, equated_no_apart}
+use Rattle.esc_node_terms.proofs.LiteralForms.{equated_no_denied, form-Distinct, form-Eq}
+use Rattle.esc_node_terms.proofs.LiteralForms.{same_apart, same_denied, same_equated}
 use Rattle.esc_branch.proofs.NodeTests.{of_together_at, together_at}
-use Rattle.esc_branch.proofs.Together.{node_of_term, nodes_of_together, same_in-equivalence}
+use Rattle.esc_branch.proofs.Together.{nodes_of_together, same_in-equivalence}
+use Rattle.esc_node_terms.proofs.Places.{node_of_term}
 
 -- a place of a list stays where an element is added at the end
 pub Any-append_left : {X : Type 0} (P : X → Type 0) (xs : List X) (y : X) → Any P xs →
@@ -76,7 +79,7 @@ module _ (v : Branch) (is : IsBranch v) (merges : List (ℕ × ℕ)) (a b : ℕ)
     graph = graph;
     members = is.members;
     forms = All-push
-        (λ (item : Item). IsTrue (is_branch_form (out-Formula item.formula) item.positive))
+        (λ (item : Item). IsTrue (is_class_form (out-Formula item.formula) item.positive))
         v.literals (equated s t) is.forms (form-Eq s t true);
     equations_are = λ x y h. elim (Contains-push_cases v.literals (equated s t) (equated x y) h) [
       | inl before ↦ joined_stays x y (is.equations_are x y before)
@@ -137,7 +140,7 @@ module _ (v : Branch) (is : IsBranch v) (merges : List (ℕ × ℕ)) (a b : ℕ)
     same = same_in (joined v merges s t);
     congruent = record {
       equivalence = same_in-equivalence (joined v merges s t);
-      congruence = congruence_in (joined v merges s t) graph least.closed;
+      congruence = congruence_in (joined v merges s t).graph graph least.closed;
       equations = λ x y h. of_together_in (joined v merges s t) graph x y
           (told_joined.equations_are x y h);
       values = λ x y h. absurd (Contains-none x h);
@@ -168,7 +171,7 @@ module _ (v : Branch) (is : IsBranch v) (a b : ℕ) (s t : Term) (sa : term_at v
     graph = graph;
     members = is.members;
     forms = All-push
-        (λ (item : Item). IsTrue (is_branch_form (out-Formula item.formula) item.positive))
+        (λ (item : Item). IsTrue (is_class_form (out-Formula item.formula) item.positive))
         v.literals (denied s t) is.forms (form-Eq s t false);
     equations_are = λ x y h. elim (Contains-push_cases v.literals (denied s t) (equated x y) h) [
       | inl before ↦ ap (λ cs. together cs x y) forbidding_classes ∙ is.equations_are x y before
@@ -228,7 +231,7 @@ module _ (v : Branch) (is : IsBranch v) (group : List ℕ) (ts : List Term)
     graph = is.graph;
     members = All-push (All (λ n. n < length v.graph.nodes)) v.groups group is.members within;
     forms = All-push
-        (λ (item : Item). IsTrue (is_branch_form (out-Formula item.formula) item.positive))
+        (λ (item : Item). IsTrue (is_class_form (out-Formula item.formula) item.positive))
         v.literals (told_apart ts) is.forms (form-Distinct ts);
     equations_are = λ x y h. elim (Contains-push_cases v.literals (told_apart ts) (equated x y) h) [
       | inl before ↦ ap (λ cs. together cs x y) grouping_classes ∙ is.equations_are x y before

@@ -13,8 +13,8 @@ use Rattle.esc_egraph.specs.Graph.{Graph, IsGraph, number_of}
 use Rattle.esc_distinct.specs.Groups.{AreBroken}
 use Rattle.esc_branch.specs.declared.branch.Branch.{Branch}
 use Rattle.esc_branch.specs.Steps.{Asserted, IsClosedBy}
-use Rattle.esc_branch.specs.View.{IsBranch, cover_in, denied, equated, term_at, terms_in}
-use Rattle.esc_branch.specs.View.{told_apart}
+use Rattle.esc_branch.specs.View.{IsBranch, cover_in, term_at, terms_in}
+use Rattle.esc_node_terms.specs.LiteralForms.{denied, equated, told_apart}
 use Rattle.esc_branch.proofs.Outcomes.{asserted_forbidding, asserted_grouping, asserted_joined}
 use Rattle.esc_branch.proofs.Outcomes.{closed_forbidding, closed_grouping, closed_joined}
 use Rattle.esc_branch.proofs.Steps.{forbidding, grouping, joined}

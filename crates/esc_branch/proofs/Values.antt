@@ -1,133 +1,28 @@
 -- The values of nodes in a model of the literals: no class holds what the literals keep apart.
-use Rattle.std.proofs.Common.{◌≡◌, ℕ, ℤ, pos, ◌<◌, true, inl, inr, List, length, get_or, map, refl}
-use Rattle.std.proofs.Common.{ap, sym, ◌∙◌, arith}
-use Rattle.std.specs.List.{All, Contains}
-use Rattle.std.specs.Ordering.{int_eq}
-use Rattle.std.proofs.lemmas.Bool.Decides.{Decides-int_eq}
-use Rattle.std.proofs.lemmas.List.{get_or-map, length-map}
-use Rattle.std.proofs.lemmas.List.Elements.{All-contains}
+use Rattle.std.proofs.Common.{List}
+use Rattle.std.specs.List.{All}
 use Rattle.esc_term.specs.declared.term.Term.{Term}
-use Rattle.esc_term.specs.Interpretation.{all_apart}
-use Rattle.esc_term.specs.Model.{Model, applied, read_in, value_in}
-use Rattle.esc_term.proofs.Models.{value_in-App, value_in-Num}
-use Rattle.esc_term.proofs.Pairs.{map-map}
-use Rattle.esc_term.proofs.TruthLevels.{truth-Distinct, truth-Eq}
-use Rattle.esc_union.specs.Merges.{SameClass}
+use Rattle.esc_term.specs.Model.{Model}
 use Rattle.esc_cover.specs.Arithmetic.{without_numbers}
 use Rattle.esc_cover.specs.Laws.{HoldsIn, TogetherHasOneValue}
-use Rattle.esc_cover.proofs.TestLemmas.{not_both}
-use Rattle.esc_nodes.specs.Nodes.{AreTerms, Shape, shape_at}
-use Rattle.esc_nodes.specs.Terms.{built, term_of}
-use Rattle.esc_nodes.specs.declared.top.Top.{Top}
-use Rattle.esc_nodes.specs.declared.top.Top.TheVariants.{Num, App}
-use Rattle.esc_nodes.proofs.NodeTerms.{terms_are_built}
-use Rattle.esc_egraph.specs.Congruence.{AreUnequalNumerals, IsBroken}
-use Rattle.esc_egraph.specs.Laws.{HasCongruentValues}
+use Rattle.esc_egraph.specs.Congruence.{IsBroken}
 use Rattle.esc_egraph.specs.Graph.{number_of}
-use Rattle.esc_distinct.specs.Groups.{AreBroken, HoldsTwice}
+use Rattle.esc_distinct.specs.Groups.{AreBroken}
+use Rattle.esc_node_terms.proofs.Values as kept
+use Rattle.esc_node_terms.proofs.Values.{HaveOneValue}
 use Rattle.esc_branch.specs.declared.branch.Branch.{Branch}
-use Rattle.esc_branch.specs.View.{IsBranch, denied, equated, literals_in, term_at, terms_in}
-use Rattle.esc_branch.specs.View.{told_apart}
-use Rattle.esc_branch.proofs.Agreeing.{IsTold}
+use Rattle.esc_branch.specs.View.{IsBranch, literals_in, term_at, terms_in}
+use Rattle.esc_branch.proofs.Agreeing.{IsTold, are_kept}
 use Rattle.esc_branch.proofs.NodeTests.{together_at}
-use Rattle.esc_branch.proofs.TwoPlaces.{apart_at}
-
--- the value of each node's term
-abbrev pub value_at : Model → List Shape → ℕ → ℤ
-value_at M nodes n = value_in M (term_of nodes n)
-
--- nodes of one class have one value
-abbrev pub HaveOneValue : Model → List Shape → (ℕ → ℕ) → Type 0
-HaveOneValue M nodes number = (x y : ℕ) → x < length nodes → y < length nodes →
-    SameClass number x y → value_at M nodes x ≡ value_at M nodes y
-
-built_values : (M : Model) (of : ℕ → Term) (top : Top) (xs ys : List ℕ) →
-    map (λ n. value_in M (of n)) xs ≡ map (λ n. value_in M (of n)) ys →
-    value_in M (built of top xs) ≡ value_in M (built of top ys)
-built_values M of (Num n) xs ys e = refl
-built_values M of (App head) xs ys e =
-    value_in-App M head (map of xs)
-    ∙ (ap (applied M head) (map-map of (value_in M) xs ∙ (e ∙ sym (map-map of (value_in M) ys)))
-    ∙ sym (value_in-App M head (map of ys)))
-
-pub values_are_congruent : (M : Model) (nodes : List Shape) → AreTerms nodes →
-    HasCongruentValues nodes (value_at M nodes)
-values_are_congruent M nodes are a b al bl tops args =
-    ap (value_in M) (terms_are_built nodes are a al)
-    ∙ (built_values M (term_of nodes) (shape_at nodes a).top (shape_at nodes a).args
-    (shape_at nodes b).args args
-    ∙ (ap (λ top. value_in M (built (term_of nodes) top (shape_at nodes b).args)) tops
-    ∙ ap (value_in M) (sym (terms_are_built nodes are b bl))))
-
-numerals_differ : (M : Model) (of : ℕ → Term) (t u : Top) (xs ys : List ℕ) →
-    AreUnequalNumerals t u → value_in M (built of t xs) ≡ value_in M (built of u ys) → ⊥
-numerals_differ M of (Num m) (Num n) xs ys apart e =
-    apart (sym (value_in-Num M m) ∙ (e ∙ value_in-Num M n))
-numerals_differ M of (Num m) (App f) xs ys apart e = apart
-numerals_differ M of (App f) u xs ys apart e = apart
-
--- the sides of an equation that holds have one value
-pub values_equal : (M : Model) (s t : Term) → HoldsIn M (equated s t) → value_in M s ≡ value_in M t
-values_equal M s t holds = (Decides-int_eq (value_in M s) (value_in M t)).0
-    (sym (truth-Eq (read_in M) s t) ∙ holds)
-
-values_differ : (M : Model) (s t : Term) → HoldsIn M (denied s t) → value_in M s ≡ value_in M t → ⊥
-values_differ M s t fails e =
-    not_both (int_eq (value_in M s) (value_in M t))
-    ((Decides-int_eq (value_in M s) (value_in M t)).1 e) (sym (truth-Eq (read_in M) s t) ∙ fails)
 
 module _ (v : Branch) (told : IsTold v) (M : Model) (holds : All (HoldsIn M) (literals_in v))
     (one : HaveOneValue M v.graph.nodes (number_of v.graph)) where
   pub not_broken : IsBroken v.graph → ⊥
-  not_broken (inl pair) =
-      let there = All-contains
-      (λ (p : ℕ × ℕ). (p.0 < length v.graph.nodes) × (p.1 < length v.graph.nodes))
-      v.graph.forbidden pair.1 told.graph.paired (pair.0, pair.2, pair.3) in
-      let literal : Contains (literals_in v) (denied (term_at v pair.1.0) (term_at v pair.1.1)) =
-      All-contains
-      (λ (p : ℕ × ℕ). Contains (literals_in v) (denied (term_at v p.0) (term_at v p.1)))
-      v.graph.forbidden pair.1 told.pairs_are (pair.0, pair.2, pair.3) in
-      values_differ M (term_at v pair.1.0) (term_at v pair.1.1)
-      (All-contains (HoldsIn M) (literals_in v)
-      (denied (term_at v pair.1.0) (term_at v pair.1.1)) holds literal)
-      (one pair.1.0 pair.1.1 there.0 there.1 pair.4)
-  not_broken (inr clash) =
-      let nodes = v.graph.nodes in
-      let x = clash.0 in
-      let y = clash.2.0 in
-      numerals_differ M (term_of nodes) (shape_at nodes x).top (shape_at nodes y).top
-      (shape_at nodes x).args (shape_at nodes y).args clash.2.3
-      (ap (value_in M) (sym (terms_are_built nodes told.graph.terms x clash.1))
-      ∙ (one x y clash.1 clash.2.1 clash.2.2
-      ∙ ap (value_in M) (terms_are_built nodes told.graph.terms y clash.2.1)))
-
-  twice : (group : List ℕ) → All (λ n. n < length v.graph.nodes) group →
-      all_apart (map (value_at M v.graph.nodes) group) ≡ true →
-      HoldsTwice (number_of v.graph) group → ⊥
-  twice group within apart (i, il, (j, jl, other, same)) =
-      let count : length (map (value_at M v.graph.nodes) group) ≡ length group =
-      length-map group (value_at M v.graph.nodes) in
-      apart_at (map (value_at M v.graph.nodes) group) apart (pos 0) i j (omega (arith, il, count))
-      (omega (arith, jl, count)) other
-      (get_or-map (value_at M v.graph.nodes) group i 0 (pos 0) il
-      ∙ (sym (one (get_or group j 0) (get_or group i 0) (within j 0 jl) (within i 0 il) same)
-      ∙ sym (get_or-map (value_at M v.graph.nodes) group j 0 (pos 0) jl)))
+  not_broken =
+      kept.not_broken v.graph v.groups (literals_in v) (are_kept v told) M holds one
 
   pub not_twice : AreBroken (number_of v.graph) v.groups → ⊥
-  not_twice found =
-      let group = found.1 in
-      let within : All (λ n. n < length v.graph.nodes) group =
-      All-contains (All (λ n. n < length v.graph.nodes)) v.groups group told.members
-      (found.0, found.2, found.3) in
-      let literal : Contains (literals_in v) (told_apart (map (term_at v) group)) =
-      All-contains (λ g. Contains (literals_in v) (told_apart (map (term_at v) g))) v.groups group
-      told.groups_are (found.0, found.2, found.3) in
-      let apart : all_apart (map (value_in M) (map (term_at v) group)) ≡ true =
-      sym (truth-Distinct (read_in M) (map (term_at v) group))
-      ∙ All-contains (HoldsIn M) (literals_in v)
-      (told_apart (map (term_at v) group)) holds literal in
-      twice group within (ap all_apart (sym (map-map (term_at v) (value_in M) group))
-      ∙ apart) found.4
+  not_twice = kept.not_twice v.graph v.groups (literals_in v) (are_kept v told) M holds one
 
 -- the sides of an equation that are in play have one value where the branch says it
 pub branch_has_one_value : ((terms : List Term) → TogetherHasOneValue (without_numbers terms)) →

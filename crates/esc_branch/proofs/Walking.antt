@@ -1,16 +1,13 @@
 -- A walk over a closed formula that makes the node of each term after those of its arguments.
-use Rattle.std.proofs.Common.{◌≡◌, ℕ, suc, ◌+◌, ◌<◌, ◌⊎◌, Bool, true, inl, inr, List, [], ◌∷◌, ◌++◌}
+use Rattle.std.proofs.Common.{◌≡◌, ℕ, suc, ◌+◌, ◌<◌, ◌⊎◌, true, inl, inr, List, [], ◌∷◌, ◌++◌}
 use Rattle.std.proofs.Common.{length, get_or, map, take, cond, refl, ap, sym, subst, ◌∙◌}
 use Rattle.std.proofs.Common.{append-nil, arith}
-use Rattle.std.specs.List.{All, filter, flat_map, fold, list_all}
+use Rattle.std.specs.List.{All, filter, fold, list_all}
 use Rattle.std.proofs.lemmas.Bool.{and_parts}
-use Rattle.std.proofs.lemmas.Grind.{flat_map-append}
 use Rattle.std.proofs.lemmas.List.{map-append, take_more}
-use Rattle.std.proofs.lemmas.List.Elements.{All-push, Contains-get_or}
+use Rattle.std.proofs.lemmas.List.Elements.{All-push}
 use Rattle.std.proofs.lemmas.List.Sums.{fold-append}
-use Rattle.esc_term.specs.declared.term.Head.{Head}
 use Rattle.esc_term.specs.declared.term.Term.{Term}
-use Rattle.esc_term.specs.declared.term.Term.TheVariants as term
 use Rattle.esc_term.specs.declared.term.Sym.{Sym}
 use Rattle.esc_term.specs.declared.formula.Formula.{Formula}
 use Rattle.esc_term.specs.declared.formula.Formula.TheVariants.{And, Or, Not, Implies, Iff, Eq}
@@ -21,53 +18,15 @@ use Rattle.esc_term.proofs.ClosedFormulas.{closed_has_ground_terms}
 use Rattle.esc_term.proofs.FormulaLevels.{binds-And, binds-Or, binds-Not, binds-Implies, binds-Iff}
 use Rattle.esc_term.proofs.FormulaLevels.{binds-Eq, binds-Less, binds-Distinct, binds-LabelPos}
 use Rattle.esc_term.proofs.FormulaLevels.{binds-LabelNeg}
-use Rattle.esc_term.proofs.GroundTerms.{is_ground-App, is_ground-Var, terms_of-Eq, terms_of-Iff}
+use Rattle.esc_term.proofs.GroundTerms.{is_ground-App, terms_of-Eq, terms_of-Iff}
 use Rattle.esc_term.proofs.GroundTerms.{terms_of-Implies, terms_of-Less}
-use Rattle.esc_term.proofs.TermLevels.{subterms-App, subterms-Num}
 use Rattle.esc_cover.specs.Classes.{active_terms}
-use Rattle.esc_cover.proofs.TestLemmas.{all_at}
 use Rattle.esc_nodes.specs.Nodes.{Shape}
 use Rattle.esc_nodes.specs.Terms as node
 use Rattle.esc_nodes.specs.Terms.{at_place, term_of}
-use Rattle.esc_branch.specs.StartingInside.{AreNodesOf}
-use Rattle.esc_branch.proofs.Once.{places_stay}
-use Rattle.esc_branch.proofs.Together.{length-terms_of}
-
--- ---- the terms
-
--- one more element of a list whose elements bring terms in turn
-pub brought_more : {X : Type 0} (f : X → List Term) (seen : List Term) (xs : List X) (i : ℕ)
-    (x : X) → i < length xs → x ≡ get_or xs i x →
-    fold with_once seen (flat_map f (take (i + 1) xs))
-    ≡ fold with_once (fold with_once seen (flat_map f (take i xs))) (f x)
-brought_more f seen xs i x within is =
-    ap (λ ys. fold with_once seen (flat_map f ys)) (take_more xs i x within
-    ∙ ap (λ y. take i xs ++ y ∷ []) (sym is))
-    ∙ (ap (fold with_once seen) (flat_map-append f (take i xs) (x ∷ [])
-    ∙ ap (λ ys. flat_map f (take i xs) ++ ys) (append-nil (f x)))
-    ∙ fold-append with_once seen (flat_map f (take i xs)) (f x))
-
-pub brought-Num : (seen : List Term) (n : _) → fold with_once seen (subterms (term.Num n))
-    ≡ with_once seen (term.Num n)
-brought-Num seen n = ap (fold with_once seen) (subterms-Num n)
-
-pub brought-App : (seen : List Term) (head : Head) (args : List Term) →
-    fold with_once seen (subterms (term.App head args))
-    ≡ with_once (fold with_once seen (flat_map subterms args)) (term.App head args)
-brought-App seen head args = ap (fold with_once seen) (subterms-App head args)
-    ∙ fold-append with_once seen (flat_map subterms args) (term.App head args ∷ [])
-
-pub each_passes : {X : Type 0} (p : X → Bool) (xs : List X) (i : ℕ) (x : X) → i < length xs →
-    x ≡ get_or xs i x → list_all p xs ≡ true → p x ≡ true
-each_passes p xs i x within is all = ap p is
-    ∙ all_at p xs (get_or xs i x) all (Contains-get_or xs i x within)
-
-pub args_are_ground : (t : Term) (head : Head) (args ts : List Term) → t ≡ term.App head args →
-    ts ≡ args → is_ground t ≡ true → list_all is_ground ts ≡ true
-args_are_ground t head args ts is same g = ap (list_all is_ground) same
-    ∙ (sym (is_ground-App head args) ∙ (ap is_ground (sym is) ∙ g))
-
-pub ruleset brought = (brought-Num, brought-App, is_ground-Var)
+use Rattle.esc_node_terms.specs.Nodes.{AreNodesOf}
+use Rattle.esc_node_terms.proofs.Once.{places_stay}
+use Rattle.esc_node_terms.proofs.Places.{length-terms_of}
 
 -- ---- the parts of a closed formula
 

@@ -1,19 +1,10 @@
 -- How a branch starts: with nodes alone, which are made from the bottom of each term up.
-use Rattle.std.specs.Prelude.{◌≡◌, ℕ, ◌<◌, List, [], length, map}
-use Rattle.std.specs.List.{All}
-use Rattle.esc_term.specs.declared.term.Term.{Term}
+use Rattle.std.specs.Prelude.{◌≡◌, ℕ, ◌<◌, [], length}
 use Rattle.esc_union.specs.Merges.{SameClass}
-use Rattle.esc_nodes.specs.Nodes.{Shape}
-use Rattle.esc_nodes.specs.Terms.{term_of}
 use Rattle.esc_egraph.specs.Congruence.{IsMet}
 use Rattle.esc_egraph.specs.Graph.{number_of}
 use Rattle.esc_branch.specs.declared.branch.Branch.{Branch}
 use Rattle.esc_branch.specs.View.{literals_in}
-
--- the nodes stand among these, and have these terms
-pub record AreNodesOf (shapes : List Shape) (nodes : List ℕ) (ts : List Term) : Type 0 where
-  pub there : All (λ n. n < length shapes) nodes
-  pub terms : map (term_of shapes) nodes ≡ ts
 
 -- a branch that has nodes alone, each of which is a class by itself
 pub record IsBare (v : Branch) : Type 0 where

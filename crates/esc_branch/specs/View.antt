@@ -1,14 +1,10 @@
 -- What contracts see of a branch, and what stands on it.
-use Rattle.std.specs.Prelude.{◌≡◌, ℕ, suc, ◌<◌, ◌==◌, Bool, true, false, IsTrue, if◌then◌else◌}
-use Rattle.std.specs.Prelude.{List, [], ◌∷◌, length, map, Any}
+use Rattle.std.specs.Prelude.{◌≡◌, ℕ, ◌<◌, ◌==◌, Bool, IsTrue}
+use Rattle.std.specs.Prelude.{List, length, map, Any}
 use Rattle.std.specs.List.{All, Contains}
 use Rattle.esc_term.specs.declared.term.Term.{Term}
-use Rattle.esc_term.specs.declared.formula.Formula.{Formula, out-Formula}
-use Rattle.esc_term.specs.declared.formula.Formula.TheOpen.{Formula-F}
-use Rattle.esc_term.specs.declared.formula.Formula.TheVariants as formula
-use Rattle.esc_term.specs.declared.formula.Quant.{Quant}
+use Rattle.esc_term.specs.declared.formula.Formula.{Formula}
 use Rattle.esc_term.specs.declared.formula.Item.{Item}
-use Rattle.esc_term.specs.Equal.{same_term}
 use Rattle.esc_cover.specs.Arithmetic.{InPlay, without_numbers}
 use Rattle.esc_cover.specs.Classes.{classes_by, together}
 use Rattle.esc_cover.specs.Counterexample.{IsConsistent}
@@ -17,6 +13,8 @@ use Rattle.esc_cover.specs.Least.{IsLeast}
 use Rattle.esc_nodes.specs.Terms.{term_of, terms_of}
 use Rattle.esc_egraph.specs.Congruence.{IsMet}
 use Rattle.esc_egraph.specs.Graph.{IsGraph, number_of}
+use Rattle.esc_node_terms.specs.LiteralForms.{IsClassLiteral, denied, equated, told_apart}
+use Rattle.esc_node_terms.specs.Nodes.{place_among}
 use Rattle.esc_branch.specs.declared.branch.Branch.{Branch}
 
 -- the literals, in the order of assertion
@@ -30,11 +28,6 @@ terms_in v = terms_of v.graph.nodes
 -- so far a branch knows no arithmetic
 abbrev pub play_in : Branch → InPlay
 play_in v = without_numbers (terms_in v)
-
--- how many terms stand before the first that is this one
-unfoldable pub place_among : List Term → Term → ℕ
-place_among [] t = 0
-place_among (u ∷ us) t = if same_term u t then 0 else suc (place_among us t)
 
 -- the number of a term's class
 abbrev pub class_number : Branch → Term → ℕ
@@ -51,21 +44,6 @@ classes_in v = classes_by (same_in v) (terms_in v)
 abbrev pub cover_in : Branch → Formula → Cover
 cover_in v f = cover (literals_in v) (classes_in v) f
 
--- an equation with either sign, or a distinction that holds
-abbrev pub is_branch_form : Formula-F Formula Quant → Bool → Bool
-is_branch_form (Formula-F.Eq s t) positive = true
-is_branch_form (Formula-F.Distinct ts) positive = positive
-is_branch_form _ positive = false
-
-abbrev pub denied : Term → Term → Item
-denied s t = record { formula = formula.Eq s t; positive = false }
-
-abbrev pub equated : Term → Term → Item
-equated s t = record { formula = formula.Eq s t; positive = true }
-
-abbrev pub told_apart : List Term → Item
-told_apart ts = record { formula = formula.Distinct ts; positive = true }
-
 -- the term of a node
 abbrev pub term_at : Branch → ℕ → Term
 term_at v n = term_of v.graph.nodes n
@@ -78,8 +56,7 @@ pub record IsBranch (v : Branch) : Type 0 where
   pub graph : IsGraph v.graph
   pub met : IsMet v.graph
   pub members : All (All (λ n. n < length v.graph.nodes)) v.groups
-  pub forms : All (λ item. IsTrue (is_branch_form (out-Formula item.formula) item.positive))
-      (literals_in v)
+  pub forms : All IsClassLiteral (literals_in v)
   -- the sides of an equation that holds stand in one class
   pub equations_are : (s t : Term) → Contains (literals_in v) (equated s t) →
       IsTrue (together (classes_in v) s t)

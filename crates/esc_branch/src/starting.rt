@@ -6,7 +6,8 @@ ghost use Rattle.esc_term.specs.Formula.{is_closed, terms_of};
 ghost use Rattle.esc_term.specs.Term.{is_ground, subterms, with_once};
 ghost use Rattle.esc_nodes.specs.Nodes.{shape};
 ghost use Rattle.esc_nodes.specs.Terms.{built};
-ghost use Rattle.esc_branch.specs.StartingInside.{AreNodesOf, IsBare};
+ghost use Rattle.esc_branch.specs.StartingInside.{IsBare};
+ghost use Rattle.esc_node_terms.specs.Nodes.{AreNodesOf};
 ghost use Rattle.esc_branch.specs.View.{term_at, terms_in};
 
 use crate::branch::Branch;
@@ -91,7 +92,7 @@ impl Branch {
 
     /// Puts a term in play with its subterms, arguments first, and gives its node.
     #[cycle(add_term)]
-    #[tactic(auto, using(crate::proofs::Walking::brought))]
+    #[tactic(auto, using(esc_node_terms::proofs::Walking::brought))]
     fn add_term(&mut self, term: &Term, trail: &mut Trail<BranchRec>) -> Result<Node, AllocError>
         requires bare { IsBare self.old }
         requires ground { IsTrue (is_ground term.now) }

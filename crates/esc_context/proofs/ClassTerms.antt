@@ -17,8 +17,8 @@ use Rattle.esc_egraph.specs.Graph.{Graph, IsGraph, number_of}
 use Rattle.esc_sharing.specs.Nodes.{node_count, node_term, same_in, terms_in}
 use Rattle.esc_context.proofs.Leaders.{list_any-leaders, or-false}
 use Rattle.esc_context.proofs.Listing.{AreRising, map-picked}
-use Rattle.esc_branch.proofs.Together.{length-terms_of}
-use Rattle.esc_sharing.proofs.ClassTests.{of_same_at, same_at, same_in-equivalence}
+use Rattle.esc_node_terms.proofs.Places.{length-terms_of}
+use Rattle.esc_node_terms.proofs.ClassTests.{of_same_at, same_at, same_in-equivalence}
 
 -- an earlier node than the `i`th stands in the class of a node
 abbrev pub has_earlier : Graph → ℕ → ℕ → Bool

@@ -7,9 +7,9 @@ use Rattle.esc_cover.specs.Cover.{is_forced_apart}
 use Rattle.esc_cover.proofs.ClassLemmas.{of_together}
 use Rattle.esc_cover.proofs.TestLemmas.{false_from}
 use Rattle.esc_egraph.specs.Graph.{Graph, IsGraph}
-use Rattle.esc_branch.proofs.Together.{node_of_term}
+use Rattle.esc_node_terms.proofs.Places.{node_of_term}
 use Rattle.esc_sharing.specs.Nodes.{classes_in, node_count, node_term, same_in, terms_in}
-use Rattle.esc_sharing.proofs.ClassTests.{same_in-equivalence}
+use Rattle.esc_node_terms.proofs.ClassTests.{same_in-equivalence}
 use Rattle.esc_said.specs.HeldApart.{AreHeldApart}
 use Rattle.esc_said.proofs.HeldApart.{kept_apart}
 

@@ -34,7 +34,8 @@ use Rattle.esc_cover.proofs.ActiveTerms.{active}
 use Rattle.esc_cover.proofs.AtomsLevels.{atoms_of-Distinct, atoms_of-Eq, atoms_of-Not}
 use Rattle.esc_cover.proofs.CoverLevels.{cover-Not}
 use Rattle.esc_cover.proofs.TestLemmas.{not_true}
-use Rattle.esc_branch.specs.View.{IsBranch, classes_in, is_branch_form, literals_in, terms_in}
+use Rattle.esc_branch.specs.View.{IsBranch, classes_in, literals_in, terms_in}
+use Rattle.esc_node_terms.specs.LiteralForms.{is_class_form}
 use Rattle.esc_assume.specs.Clauses.{ClauseHolds, IsAmong}
 use Rattle.esc_report.specs.Found.{IsInvalid, base_of, terms_of_classes, values_of_classes}
 use Rattle.esc_report.specs.Laws.{SupportedHasNoNumbers}
@@ -127,13 +128,13 @@ goal_refuted goal s starts refuted =
 -- ---- a branch is left open
 
 literal_form : (form : Formula-F Formula Quant) (positive : Bool)
-    → IsTrue (is_branch_form form positive) → IsTrue (is_literal_form form positive)
+    → IsTrue (is_class_form form positive) → IsTrue (is_literal_form form positive)
 literal_form (Formula-F.Eq s t) positive h = refl
 literal_form (Formula-F.Distinct ts) positive h = h
 literal_form form positive h = cc
 
 form_is_atom : (atoms : List Formula) (form : Formula-F Formula Quant) (positive : Bool)
-    → IsTrue (is_branch_form form positive)
+    → IsTrue (is_class_form form positive)
     → All (Contains atoms) (atoms_of (roll-Formula form)) → Contains atoms (roll-Formula form)
 unfolding roll-Formula roll
 form_is_atom atoms (Formula-F.Eq s t) positive h there =
@@ -145,7 +146,7 @@ form_is_atom atoms (Formula-F.Distinct ts) positive h there =
 form_is_atom atoms form positive h there = absurd (cc)
 
 literal_is_atom : (terms : List Term) (atoms : List Formula) (item : Item)
-    → IsTrue (is_branch_form (out-Formula item.formula) item.positive)
+    → IsTrue (is_class_form (out-Formula item.formula) item.positive)
     → IsAmong terms atoms item → Contains atoms item.formula
 literal_is_atom terms atoms item h within =
     subst (λ (f : Formula). Contains atoms f) (roll-out-Formula item.formula)
@@ -164,7 +165,7 @@ nowhere : Assignment
 nowhere = record { denominator = 1; positive = omega arith; numerator = λ t. pos 0 }
 
 nothing_asked : (form : Formula-F Formula Quant) (positive : Bool)
-    → IsTrue (is_branch_form form positive) → asked_form form positive ≡ []
+    → IsTrue (is_class_form form positive) → asked_form form positive ≡ []
 nothing_asked (Formula-F.Eq s t) positive h = refl
 nothing_asked (Formula-F.Distinct ts) positive h = refl
 nothing_asked form positive h = absurd (cc)

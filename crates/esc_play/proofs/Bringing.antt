@@ -19,8 +19,8 @@ use Rattle.esc_trail.proofs.Noting.{notes_both, notes_nothing}
 use Rattle.esc_cover.specs.Arithmetic.{is_number, operands, operands_form}
 use Rattle.esc_nodes.specs.Terms.{at_place, term_of}
 use Rattle.esc_egraph.specs.Graph.{Graph}
-use Rattle.esc_branch.proofs.Once.{places_stay}
-use Rattle.esc_branch.proofs.Together.{length-terms_of}
+use Rattle.esc_node_terms.proofs.Once.{places_stay}
+use Rattle.esc_node_terms.proofs.Places.{length-terms_of}
 use Rattle.esc_simplex.specs.SimplexLaws.{simplex_lawful}
 use Rattle.esc_simplex.specs.SimplexUndo.{simplex_undo}
 use Rattle.esc_simplex.specs.declared.record.SimplexRec.{SimplexRec}

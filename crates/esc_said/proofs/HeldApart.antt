@@ -40,8 +40,8 @@ use Rattle.esc_egraph.specs.Graph.{Graph, IsGraph, number_of}
 use Rattle.esc_distinct.specs.Groups.{AreApart, HoldsApart}
 use Rattle.esc_sharing.specs.Literals.{equality, group_item}
 use Rattle.esc_sharing.specs.Nodes.{classes_in, node_term, same_in, terms_in}
-use Rattle.esc_sharing.proofs.ClassTests as tests
-use Rattle.esc_sharing.proofs.ClassTests.{nodes_of_same, same_in-equivalence}
+use Rattle.esc_node_terms.proofs.ClassTests as tests
+use Rattle.esc_node_terms.proofs.ClassTests.{nodes_of_same, same_in-equivalence}
 use Rattle.esc_sharing.proofs.Lists.{Contains-map, Contains-of_map}
 use Rattle.esc_said.specs.HeldApart.{AreHeldApart, denial, distinction}
 use Rattle.esc_said.proofs.SomeTwo.{some_two_at, some_two_found}

@@ -8,8 +8,8 @@ use Rattle.esc_term.specs.declared.formula.Formula.TheVariants as formula
 use Rattle.esc_term.specs.declared.formula.Item.{Item}
 use Rattle.esc_term.proofs.Members.{Contains-cases, Contains-flat_map, Contains-here}
 use Rattle.esc_term.proofs.Members.{Contains-in_flat_map, Contains-none}
-use Rattle.esc_branch.proofs.LiteralForms.{apart_no_denied, equated_no_apart}
-use Rattle.esc_branch.proofs.LiteralForms.{out-Distinct, out-Eq}
+use Rattle.esc_node_terms.proofs.LiteralForms.{apart_no_denied, equated_no_apart, out-Distinct}
+use Rattle.esc_node_terms.proofs.LiteralForms.{out-Eq}
 use Rattle.esc_sharing.specs.Literals.{equality, group_item, item_of}
 use Rattle.esc_sharing.specs.Nodes.{node_term}
 use Rattle.esc_sharing.specs.Shared.{IsShared, Shared, denied_pair, literals_in}

@@ -18,7 +18,6 @@ use Rattle.esc_simplex.specs.Senses.{Sense}
 use Rattle.esc_simplex.specs.declared.stop.Stop.{Stop}
 use Rattle.esc_simplex.specs.declared.stop.Stop.TheVariants as stop
 use Rattle.esc_distinct.specs.declared.record.GroupRec.{GroupRec}
-use Rattle.esc_branch.specs.declared.branch.Branch.{Branch}
 use Rattle.esc_sharing.specs.AddingInside.{IsGrown}
 use Rattle.esc_sharing.specs.Calls.{AreNodesFor, KeepsTerms, terms_at}
 use Rattle.esc_sharing.specs.Calls.{AddEnds, AddsNumbers, AllAreNumbers, IsNodeOf, PutsInPlay}
@@ -45,10 +44,10 @@ module _ {T : Type 0} (is_sound : T → Type 0) (admits : T → Assignment → T
     (rest : mid ≡ record entry { graph = mid.graph })
     (shared : IsShared (seen is_sound admits numbers_of entry))
     (grown : IsGrown entry.graph mid.graph) where
-  pub mid_shared : Branch → IsShared (seen is_sound admits numbers_of mid)
-  mid_shared like =
+  pub mid_shared : IsShared (seen is_sound admits numbers_of mid)
+  mid_shared =
       subst (λ (s : Sharing T). IsShared (seen is_sound admits numbers_of s)) (sym rest)
-      (grown_shared (seen is_sound admits numbers_of entry) shared mid.graph grown like)
+      (grown_shared (seen is_sound admits numbers_of entry) shared mid.graph grown)
 
   pub mid_puts : (t : Term)
       → terms_in mid.graph ≡ fold with_once (terms_in entry.graph) (subterms t)

@@ -9,7 +9,7 @@ use Rattle.esc_sharing.specs.ModelLaws.{AdmitsWhatSuits}
 use Rattle.esc_sharing.specs.Nodes.{classes_in, node_term, same_in, terms_in}
 use Rattle.esc_sharing.specs.Numbers.{number_terms}
 use Rattle.esc_sharing.specs.Shared.{AreToldIn, IsShared, Shared, literals_in, told_in}
-use Rattle.esc_sharing.proofs.ClassTests.{same_in-equivalence, together_at}
+use Rattle.esc_node_terms.proofs.ClassTests.{same_in-equivalence, together_at}
 use Rattle.esc_sharing.proofs.Exactness.{GivesOneValue, satisfying_admitted}
 use Rattle.esc_sharing.proofs.Least.{admitted_suits, node_of_number, number_of_node}
 use Rattle.esc_sharing.proofs.Lists.{All-each, Contains-of_map}

@@ -14,7 +14,7 @@ use Rattle.esc_term.proofs.Members.{Contains-cases, Contains-flat_map, Contains-
 use Rattle.esc_term.proofs.Members.{Contains-in_flat_map, Contains-later, Contains-none}
 use Rattle.esc_cover.specs.Arithmetic.{is_number, operands, operands_form}
 use Rattle.esc_egraph.specs.Graph.{Graph}
-use Rattle.esc_branch.specs.StartingInside.{AreNodesOf}
+use Rattle.esc_node_terms.specs.Nodes.{AreNodesOf}
 use Rattle.esc_sharing.specs.AddingInside.{Gathers, named}
 use Rattle.esc_sharing.specs.Calls.{AreNodesFor, GathersFor, terms_at}
 use Rattle.esc_sharing.specs.Calls.{IsNodeOf, becoming}

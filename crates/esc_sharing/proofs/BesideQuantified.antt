@@ -13,7 +13,7 @@ use Rattle.esc_cover.specs.Assignment.{Assignment, Gap, NoneNegative, Suits, ask
 use Rattle.esc_cover.specs.Assignment.{asked_form, gap_value}
 use Rattle.esc_cover.specs.Classes.{classes_by}
 use Rattle.esc_cover.specs.Least.{IsCongruent}
-use Rattle.esc_branch.proofs.LiteralForms.{out-Distinct, out-Eq}
+use Rattle.esc_node_terms.proofs.LiteralForms.{out-Distinct, out-Eq}
 use Rattle.esc_sharing.specs.ModelLaws.{ConsistentStays, LeastStays, PartedStays, SatisfiesStays}
 use Rattle.esc_sharing.specs.Unquantified.{HaveSameUnquantified, IsSamePlay, is_quantified}
 use Rattle.esc_sharing.specs.Unquantified.{is_quantified_form}

@@ -22,9 +22,9 @@ use Rattle.esc_cover.specs.Classes.{together}
 use Rattle.esc_cover.specs.Counterexample.{IsConsistent}
 use Rattle.esc_cover.proofs.TestLemmas.{not_both}
 use Rattle.esc_egraph.specs.Graph.{Graph}
-use Rattle.esc_branch.specs.View.{denied, told_apart}
-use Rattle.esc_branch.specs.declared.branch.Branch.{Branch}
-use Rattle.esc_branch.proofs.LiteralForms.{denied_no_apart, equated_no_apart, out-Distinct, out-Eq}
+use Rattle.esc_node_terms.specs.LiteralForms.{denied, told_apart}
+use Rattle.esc_node_terms.proofs.LiteralForms.{denied_no_apart, equated_no_apart, out-Distinct}
+use Rattle.esc_node_terms.proofs.LiteralForms.{out-Eq}
 use Rattle.esc_sharing.specs.Literals.{equality, group_item, item_of, order}
 use Rattle.esc_sharing.specs.Nodes.{classes_in, node_term}
 use Rattle.esc_sharing.specs.Shared.{Shared, denied_pair, items_in, literals_in}
@@ -119,9 +119,9 @@ module _ (v : Shared) where
 
   -- ---- what is kept apart
 
-  module _ (like : Branch) (forbidden : v.graph.forbidden ≡ flat_map denied_pair v.asserted) where
+  module _ (forbidden : v.graph.forbidden ≡ flat_map denied_pair v.asserted) where
     abbrev kept : List Item
-    kept = kept_items like v.graph v.groups
+    kept = kept_items v.graph v.groups
 
     denied_kept : (s t : Term) (lit : Lit) → Contains v.asserted lit
         → item_of v.graph lit ≡ denied s t → Contains kept (denied s t)

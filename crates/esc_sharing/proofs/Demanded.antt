@@ -15,7 +15,7 @@ use Rattle.esc_nodes.specs.Nodes.{AreTerms, Shape}
 use Rattle.esc_nodes.specs.Terms.{term_of, terms_of}
 use Rattle.esc_union.specs.Merges.{SameClass}
 use Rattle.esc_egraph.specs.Congruence.{EqualWith, IsLeast}
-use Rattle.esc_branch.proofs.Finest.{finest_of}
+use Rattle.esc_node_terms.proofs.Finest.{finest_of}
 use Rattle.esc_sharing.specs.SettlingInside.{IsDemanded}
 use Rattle.esc_sharing.proofs.Lists.{All-each}
 use Rattle.esc_sharing.proofs.ModelTest.{equal_in, equal_values, model_is_congruent}

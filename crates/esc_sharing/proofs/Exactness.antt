@@ -10,7 +10,7 @@ use Rattle.esc_term.specs.declared.term.Term.{Term}
 use Rattle.esc_term.specs.declared.formula.Item.{Item}
 use Rattle.esc_cover.specs.Assignment.{Assignment, Gap, NoneNegative, Satisfies, asked}
 use Rattle.esc_cover.specs.Assignment.{asked_form, gap, gap_value, value}
-use Rattle.esc_branch.proofs.LiteralForms.{out-Distinct}
+use Rattle.esc_node_terms.proofs.LiteralForms.{out-Distinct}
 use Rattle.esc_sharing.specs.Admitted.{both_gaps}
 use Rattle.esc_sharing.specs.Literals.{group_item}
 use Rattle.esc_sharing.specs.Nodes.{node_term}

@@ -19,8 +19,8 @@ use Rattle.esc_cover.specs.Arithmetic.{is_number_form, operands_form}
 use Rattle.esc_nodes.specs.Nodes.{Shape}
 use Rattle.esc_nodes.specs.Terms.{term_of}
 use Rattle.esc_egraph.specs.Graph.{Graph}
-use Rattle.esc_branch.specs.StartingInside.{AreNodesOf}
-use Rattle.esc_branch.proofs.Walking.{brought-App}
+use Rattle.esc_node_terms.specs.Nodes.{AreNodesOf}
+use Rattle.esc_node_terms.proofs.Walking.{brought-App}
 use Rattle.esc_sharing.specs.AddingInside.{Gathers, IsGrown, is_sum, named, named_nodes}
 use Rattle.esc_sharing.specs.Calls.{IsNodeOf}
 use Rattle.esc_sharing.specs.Nodes.{node_term, terms_in}

@@ -15,7 +15,6 @@ use Rattle.esc_egraph.specs.Graph.{number_of}
 use Rattle.esc_egraph.specs.declared.state.State.{State}
 use Rattle.esc_egraph.specs.declared.state.State.TheVariants.{Open, Closed}
 use Rattle.esc_distinct.specs.Groups.{AreBroken}
-use Rattle.esc_branch.specs.declared.branch.Branch.{Branch}
 use Rattle.esc_simplex.specs.Senses.{Sense}
 use Rattle.esc_simplex.specs.declared.stop.Stop.{Stop}
 use Rattle.esc_simplex.specs.declared.stop.Stop.TheVariants as stop
@@ -92,10 +91,10 @@ module _ (v : Shared) (is : IsShared v) (group : List ℕ)
     known_equal = λ a b an bn same x admitted. is.agree.one_value x admitted a b an bn same;
   }
 
-  pub group_closed : Branch → AreBroken (number_of v.graph) (v.groups ++ (group ∷ []))
+  pub group_closed : AreBroken (number_of v.graph) (v.groups ++ (group ∷ []))
       → HaveNoModel (literals_in grouped)
-  group_closed like broken =
-      broken_no_model grouped like demanded is.parts.graph is.parts.forbidden members (inr broken)
+  group_closed broken =
+      broken_no_model grouped demanded is.parts.graph is.parts.forbidden members (inr broken)
 
 -- ---- what steps leave, as what a call adds
 
@@ -135,20 +134,20 @@ module _ (v : Shared) (is : IsShared v) (group : List ℕ)
       (All-push (All (λ n. n < node_count v.graph)) v.groups group is.parts.members within)
 
   -- neither classes nor the theory change
-  pub group_shared : Branch → (AreBroken (number_of v.graph) groups → ⊥)
+  pub group_shared : (AreBroken (number_of v.graph) groups → ⊥)
       → IsShared (record v { groups = groups })
-  group_shared like unbroken =
+  group_shared unbroken =
       subst (λ list. IsShared (record v { groups = list })) (sym pushed)
-      (settled (grouped v is group within) (SameClass (number_of v.graph)) like
+      (settled (grouped v is group within) (SameClass (number_of v.graph))
       (group_open v is group within
       (λ broken. unbroken (subst (AreBroken (number_of v.graph)) (sym pushed) broken)))
       is.agree.one_value is.agree.parted)
 
-  pub group_no_model : Branch → AreBroken (number_of v.graph) groups
+  pub group_no_model : AreBroken (number_of v.graph) groups
       → HaveNoModel (literals_in (record v { groups = groups }))
-  group_no_model like broken =
+  group_no_model broken =
       subst (λ list. HaveNoModel (literals_in (record v { groups = list }))) (sym pushed)
-      (group_closed v is group within like
+      (group_closed v is group within
       (subst (AreBroken (number_of v.graph)) pushed broken))
 
 module _ {T Q W : Type 0} (undo : Undo T Q) (law : IsLawful undo) (nodes : EgraphRec → W)

@@ -9,7 +9,7 @@ use Rattle.esc_nodes.specs.declared.top.Top.TheVariants.{Num}
 use Rattle.esc_nodes.proofs.NodeTerms.{terms_stay}
 use Rattle.esc_egraph.specs.Congruence.{AreAlike, IsCongruence, IsKnown, IsMade, IsMet}
 use Rattle.esc_egraph.specs.Graph.{Graph, IsGraph}
-use Rattle.esc_branch.proofs.Growing.{term_grown}
+use Rattle.esc_node_terms.proofs.MadeTerms.{term_grown}
 use Rattle.esc_sharing.specs.AddingInside.{IsGrown}
 use Rattle.esc_sharing.specs.Calls.{IsNodeOf}
 

@@ -12,7 +12,6 @@ use Rattle.esc_cover.specs.Least.{IsCongruent}
 use Rattle.esc_nodes.specs.Terms.{terms_of}
 use Rattle.esc_union.specs.Merges.{SameClass}
 use Rattle.esc_egraph.specs.Graph.{number_of}
-use Rattle.esc_branch.specs.declared.branch.Branch.{Branch}
 use Rattle.esc_sharing.specs.AddingInside.{WereKnown}
 use Rattle.esc_sharing.specs.Admitted.{AdmitsWith}
 use Rattle.esc_sharing.specs.Calls.{AddsNumbers}
@@ -107,9 +106,9 @@ module _ (v : Shared) (is : IsShared v) (numbers : List (ℕ × Term)) (terms : 
   }
 
   -- nothing became arithmetic
-  pub numbers_shared : Branch → length numbers ≡ length v.numbers → IsShared numbered
-  numbers_shared like count =
-      settled numbered (WereKnown v.numbers (number_of v.graph)) like numbers_unsettled
+  pub numbers_shared : length numbers ≡ length v.numbers → IsShared numbered
+  numbers_shared count =
+      settled numbered (WereKnown v.numbers (number_of v.graph)) numbers_unsettled
       (λ x admitted a b an bn same. is.agree.one_value x (back x admitted) a b (old a an)
       (old b bn) same)
       (λ a b two.

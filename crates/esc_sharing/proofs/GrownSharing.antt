@@ -14,9 +14,8 @@ use Rattle.esc_nodes.specs.Terms.{terms_of}
 use Rattle.esc_egraph.specs.Congruence.{SameAmong}
 use Rattle.esc_egraph.specs.Graph.{Graph, number_of}
 use Rattle.esc_distinct.specs.Groups.{AreBroken}
-use Rattle.esc_branch.specs.declared.branch.Branch.{Branch}
-use Rattle.esc_branch.proofs.Finest.{finest_of}
-use Rattle.esc_branch.proofs.Together.{Contains-term_of, node_of_term}
+use Rattle.esc_node_terms.proofs.Finest.{finest_of}
+use Rattle.esc_node_terms.proofs.Places.{Contains-term_of, node_of_term}
 use Rattle.esc_sharing.specs.AddingInside.{IsGrown}
 use Rattle.esc_sharing.specs.Admitted.{both_gaps}
 use Rattle.esc_sharing.specs.Literals.{AreSides, group_item, item_of}
@@ -200,9 +199,9 @@ module _ (v : Shared) (is : IsShared v) (g : Graph) (grown : IsGrown v.graph g) 
       ∙ (is.agree.one_value x admitted a b an bn (grown.kept a b al bl same)
       ∙ ap (value x) (sym (stays v.graph g grown b bl)))
 
-  pub grown_shared : Branch → IsShared grown_view
-  grown_shared like =
-      settled grown_view (SameClass (number_of g)) like (record {
+  pub grown_shared : IsShared grown_view
+  grown_shared =
+      settled grown_view (SameClass (number_of g)) (record {
         parts = parts_grown;
         exact = λ x. subst (λ items. v.admits x ↔ (NoneNegative x (flat_map asked items)
             × NoneNegative x (flat_map both_gaps (told_in grown_view)))) (sym items_grown)

@@ -24,7 +24,6 @@ use Rattle.esc_sharing.specs.Shared.{HaveNoModel, Shared, literals_in, seen}
 use Rattle.esc_sharing.specs.SharingUndo.{part_carried}
 use Rattle.esc_sharing.specs.declared.record.ShareRec.{ShareRec}
 use Rattle.esc_sharing.specs.declared.sharing.Sharing.{Sharing}
-use Rattle.esc_branch.specs.declared.branch.Branch.{Branch}
 use Rattle.esc_sharing.proofs.Joining.{found_closed, found_open, joined_now, joined_view}
 use Rattle.esc_sharing.proofs.Least.{number_of_node}
 use Rattle.esc_sharing.proofs.SharingNotes.{keeps_graph}
@@ -86,12 +85,12 @@ module _ {T : Type 0} (is_sound : T → Type 0) (admits : T → Assignment → T
       (found_open v merges a b al bl least Known is two.first two.second equal
       (subst IsGraph others graph) (subst IsMet others met) unbroken Now joined)
 
-  pub join_closed : Branch → IsGraph exit.graph
+  pub join_closed : IsGraph exit.graph
       → IsBroken exit.graph ⊎ AreBroken (number_of exit.graph) entry.groups
       → HaveNoModel (literals_in (seen is_sound admits numbers_of exit))
-  join_closed like graph broken =
+  join_closed graph broken =
       at_exit (λ w. HaveNoModel (literals_in w))
-      (found_closed v merges a b al bl least Known is two.first two.second equal like
+      (found_closed v merges a b al bl least Known is two.first two.second equal
       (subst IsGraph others graph)
       (elim broken [ inl inside ↦ inl (subst IsBroken others inside) | inr twice ↦ inr twice ]))
 

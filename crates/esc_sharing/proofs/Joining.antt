@@ -11,7 +11,6 @@ use Rattle.esc_union.specs.Merges.{SameClass, class_number}
 use Rattle.esc_egraph.specs.Congruence.{EqualWith, IsBroken, IsLeast, IsMet}
 use Rattle.esc_egraph.specs.Graph.{Graph, IsGraph, number_of}
 use Rattle.esc_distinct.specs.Groups.{AreBroken}
-use Rattle.esc_branch.specs.declared.branch.Branch.{Branch}
 use Rattle.esc_sharing.specs.Admitted.{AreEqualBy, both_gaps}
 use Rattle.esc_sharing.specs.Literals.{AreSides, group_item}
 use Rattle.esc_sharing.specs.Nodes.{node_count, node_term}
@@ -164,9 +163,9 @@ module _ (v : Shared) (merges : List (ℕ × ℕ)) where
               equal joined x y xn yn together;
         }
 
-        pub found_closed : Branch → IsGraph joined_graph
+        pub found_closed : IsGraph joined_graph
             → IsBroken joined_graph ⊎ AreBroken (class_number merges) v.groups
             → HaveNoModel (literals_in joined_view)
-        found_closed like graph broken =
-            broken_no_model joined_view like demanded_found graph is.parts.forbidden
+        found_closed graph broken =
+            broken_no_model joined_view demanded_found graph is.parts.forbidden
             is.parts.members broken

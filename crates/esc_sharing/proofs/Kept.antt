@@ -1,22 +1,18 @@
--- What the graph and the groups keep apart, as literals of a branch that has no others.
-use Rattle.std.proofs.Common.{◌≡◌, ℕ, ◌<◌, false, inl, inr, List, ◌++◌, map, IsTrue}
-use Rattle.std.proofs.Common.{sym}
+-- What a graph and groups keep apart, as literals where there are no others.
+use Rattle.std.proofs.Common.{◌≡◌, ℕ, ◌<◌, false, inl, inr, List, ◌++◌, map, sym}
 use Rattle.std.specs.List.{All, Contains}
 use Rattle.std.proofs.lemmas.List.Elements.{All-append, All-map, Contains-append_cases}
 use Rattle.std.proofs.lemmas.List.Elements.{Contains-append_left, Contains-append_right}
-use Rattle.esc_term.specs.declared.formula.Formula.{out-Formula}
 use Rattle.esc_term.specs.declared.formula.Item.{Item}
 use Rattle.esc_cover.specs.Counterexample.{IsConsistent}
 use Rattle.esc_egraph.specs.Congruence.{IsMet}
 use Rattle.esc_egraph.specs.Graph.{Graph, IsGraph, number_of}
 use Rattle.esc_distinct.specs.Groups.{AreBroken}
-use Rattle.esc_branch.specs.View as branch
-use Rattle.esc_branch.specs.View.{denied, equated, is_branch_form, told_apart}
-use Rattle.esc_branch.specs.declared.branch.Branch.{Branch}
-use Rattle.esc_branch.proofs.Agreeing.{IsTold, agreeing}
-use Rattle.esc_branch.proofs.LiteralForms.{apart_no_denied, denied_no_apart, equated_no_apart}
-use Rattle.esc_branch.proofs.LiteralForms.{equated_no_denied, form-Distinct, form-Eq, same_apart}
-use Rattle.esc_branch.proofs.LiteralForms.{same_denied}
+use Rattle.esc_node_terms.specs.LiteralForms.{AreKept, IsClassLiteral, denied, equated, told_apart}
+use Rattle.esc_node_terms.proofs.Agreeing.{agreeing}
+use Rattle.esc_node_terms.proofs.LiteralForms.{apart_no_denied, denied_no_apart, equated_no_apart}
+use Rattle.esc_node_terms.proofs.LiteralForms.{equated_no_denied, form-Distinct, form-Eq}
+use Rattle.esc_node_terms.proofs.LiteralForms.{same_apart, same_denied}
 use Rattle.esc_sharing.specs.Literals.{group_item}
 use Rattle.esc_sharing.specs.Nodes.{classes_in, node_count, node_term}
 use Rattle.esc_sharing.proofs.Lists.{All-each, Any-contains, Contains-map, Contains-of_map}
@@ -24,12 +20,9 @@ use Rattle.esc_sharing.proofs.Lists.{All-each, Any-contains, Contains-map, Conta
 abbrev pub denied_item : Graph → ℕ × ℕ → Item
 denied_item g pair = denied (node_term g pair.0) (node_term g pair.1)
 
-module _ (like : Branch) (g : Graph) (groups : List (List ℕ)) where
+module _ (g : Graph) (groups : List (List ℕ)) where
   abbrev pub kept_items : List Item
   kept_items = map (denied_item g) g.forbidden ++ map (group_item g) groups
-
-  abbrev pub kept_branch : Branch
-  kept_branch = record like { graph = g; groups = groups; literals = kept_items }
 
   kept_pair : (pair : ℕ × ℕ) → Contains g.forbidden pair → Contains kept_items (denied_item g pair)
   kept_pair pair h = Contains-append_left (map (denied_item g) g.forbidden)
@@ -57,19 +50,17 @@ module _ (like : Branch) (g : Graph) (groups : List (List ℕ)) where
               of_group found.0 found.1 found.2
         ]
 
-  abbrev IsForm : Item → Type 0
-  IsForm item = IsTrue (is_branch_form (out-Formula item.formula) item.positive)
-
-  pub kept_is_told : IsGraph g → All (All (λ n. n < node_count g)) groups → IsTold kept_branch
-  kept_is_told graph members = record {
+  pub are_kept : IsGraph g → All (All (λ n. n < node_count g)) groups
+      → AreKept g groups kept_items
+  are_kept graph members = record {
     graph = graph;
     members = members;
-    forms = All-append IsForm (map (denied_item g) g.forbidden) (map (group_item g) groups)
-        (All-map IsForm (denied_item g) g.forbidden
-        (All-each (λ (pair : ℕ × ℕ). IsForm (denied_item g pair)) g.forbidden
+    forms = All-append IsClassLiteral (map (denied_item g) g.forbidden) (map (group_item g) groups)
+        (All-map IsClassLiteral (denied_item g) g.forbidden
+        (All-each (λ (pair : ℕ × ℕ). IsClassLiteral (denied_item g pair)) g.forbidden
         (λ pair h. form-Eq (node_term g pair.0) (node_term g pair.1) false)))
-        (All-map IsForm (group_item g) groups
-        (All-each (λ (group : List ℕ). IsForm (group_item g group)) groups
+        (All-map IsClassLiteral (group_item g) groups
+        (All-each (λ (group : List ℕ). IsClassLiteral (group_item g group)) groups
         (λ group h. form-Distinct (map (node_term g) group))));
     equations_are = λ s t h. absurd (of_kept (equated s t) ⊥
         (λ pair k e. equated_no_denied s t (node_term g pair.0) (node_term g pair.1) (sym e))
@@ -92,6 +83,5 @@ module _ (like : Branch) (g : Graph) (groups : List (List ℕ)) where
   -- the classes are consistent with these
   pub kept_consistent : IsGraph g → All (All (λ n. n < node_count g)) groups → IsMet g
       → (AreBroken (number_of g) groups → ⊥) → IsConsistent kept_items (classes_in g)
-  unfolding classes_in branch.classes_in
   kept_consistent graph members met unbroken =
-      agreeing kept_branch (kept_is_told graph members) met unbroken
+      agreeing g groups kept_items (are_kept graph members) met unbroken

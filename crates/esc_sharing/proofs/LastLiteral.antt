@@ -18,8 +18,7 @@ use Rattle.esc_union.specs.Merges.{SameClass, class_number}
 use Rattle.esc_egraph.specs.Congruence.{EqualWith, IsBroken, IsLeast, IsMet}
 use Rattle.esc_egraph.specs.Graph.{Graph, IsGraph, number_of}
 use Rattle.esc_distinct.specs.Groups.{AreBroken}
-use Rattle.esc_branch.specs.declared.branch.Branch.{Branch}
-use Rattle.esc_branch.proofs.LiteralForms.{out-Eq}
+use Rattle.esc_node_terms.proofs.LiteralForms.{out-Eq}
 use Rattle.esc_sharing.specs.Admitted.{AdmitsWith, AdmitsWithSome, both_gaps}
 use Rattle.esc_sharing.specs.Literals.{AreSides, group_item, item_of}
 use Rattle.esc_sharing.specs.Nodes.{node_count, node_term}
@@ -175,10 +174,10 @@ module _ (v : Shared) (is : IsShared v) (a b : ℕ)
     known_equal = known_before v is (Apart a b) sides;
   }
 
-  pub apart_closed : Branch → SameClass (number_of v.graph) a b
+  pub apart_closed : SameClass (number_of v.graph) a b
       → HaveNoModel (literals_in kept_view)
-  apart_closed like same =
-      broken_no_model kept_view like kept_demanded kept_graph_is kept_forbidden is.parts.members
+  apart_closed same =
+      broken_no_model kept_view kept_demanded kept_graph_is kept_forbidden is.parts.members
       (inl (inl (Any-contains (λ (p : ℕ × ℕ). SameClass (number_of v.graph) p.0 p.1)
       (v.graph.forbidden ++ ((a, b) ∷ [])) (a, b) (Contains-push v.graph.forbidden (a, b)) same)))
 
@@ -241,11 +240,11 @@ module _ (v : Shared) (is : IsShared v) (a b : ℕ)
     known_equal = known_before v is (Equal a b) sides;
   }
 
-  pub equal_closed : Branch → IsGraph equated_graph
+  pub equal_closed : IsGraph equated_graph
       → IsBroken equated_graph ⊎ AreBroken (class_number merges) v.groups
       → HaveNoModel (literals_in equated_view)
-  equal_closed like graph broken =
-      broken_no_model equated_view like equated_demanded graph equated_forbidden is.parts.members
+  equal_closed graph broken =
+      broken_no_model equated_view equated_demanded graph equated_forbidden is.parts.members
       broken
 
 -- ---- an order

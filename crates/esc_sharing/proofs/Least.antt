@@ -13,10 +13,9 @@ use Rattle.esc_cover.proofs.ClassLemmas.{of_least}
 use Rattle.esc_cover.proofs.TestLemmas.{not_both}
 use Rattle.esc_union.specs.Merges.{SameClass}
 use Rattle.esc_egraph.specs.Graph.{IsGraph, number_of}
-use Rattle.esc_branch.specs.View.{equated}
-use Rattle.esc_branch.specs.declared.branch.Branch.{Branch}
-use Rattle.esc_branch.proofs.Finest.{congruence_in}
-use Rattle.esc_branch.proofs.LiteralForms.{equated_no_apart, same_equated}
+use Rattle.esc_node_terms.specs.LiteralForms.{equated}
+use Rattle.esc_node_terms.proofs.Finest.{congruence_in}
+use Rattle.esc_node_terms.proofs.LiteralForms.{equated_no_apart, same_equated}
 use Rattle.esc_sharing.specs.Literals.{AreSides, equality, item_of}
 use Rattle.esc_sharing.specs.Nodes.{classes_in, node_count, node_term, same_in}
 use Rattle.esc_sharing.specs.Numbers.{AreNumbersOf, IsNumber, number_terms}
@@ -25,8 +24,8 @@ use Rattle.esc_sharing.specs.Shared.{play_in}
 use Rattle.esc_sharing.specs.SettlingInside.{JoinsDemanded}
 use Rattle.esc_sharing.specs.declared.literal.Lit.{Lit}
 use Rattle.esc_sharing.specs.declared.literal.Lit.TheVariants.{Equal, Apart, Below, AtMost}
-use Rattle.esc_sharing.proofs.ClassTests.{nodes_of_same, of_same_at, same_at, same_in-equivalence}
-use Rattle.esc_sharing.proofs.ClassTests.{together_at}
+use Rattle.esc_node_terms.proofs.ClassTests.{nodes_of_same, of_same_at, same_at}
+use Rattle.esc_node_terms.proofs.ClassTests.{same_in-equivalence, together_at}
 use Rattle.esc_sharing.proofs.Consistent.{Less_no_Eq, of_literal, signs_differ}
 use Rattle.esc_sharing.proofs.Exactness.{admitted_satisfies}
 use Rattle.esc_sharing.proofs.Lists.{Contains-map, Contains-of_map}
@@ -173,12 +172,11 @@ module _ (v : Shared) (parts : AreParts v) where
             ∙ (equal parted.0 (admitted_suits parted.0 parted.1)
             ∙ ap (value parted.0) (sym right.3))))
 
-    module _ (like : Branch) (demanded : JoinsDemanded v) where
+    module _ (demanded : JoinsDemanded v) where
       classes_congruent : IsCongruent (same_in v.graph) (play_in v) (literals_in v)
       classes_congruent = record {
         equivalence = same_in-equivalence v.graph;
-        congruence = congruence_in (record like { graph = v.graph }) parts.graph
-            parts.met.closed;
+        congruence = congruence_in v.graph parts.graph parts.met.closed;
         equations = equations_pass;
         values = values_pass;
       }

@@ -8,7 +8,6 @@ pub mod Becoming
 pub mod BesideQuantified
 pub mod BoundNodes
 pub mod ChosenClasses
-pub mod ClassTests
 pub mod Consistent
 pub mod Demanded
 pub mod Exactness

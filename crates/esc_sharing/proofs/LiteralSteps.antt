@@ -15,7 +15,6 @@ use Rattle.esc_egraph.specs.declared.state.State.{State}
 use Rattle.esc_egraph.specs.declared.state.State.TheVariants.{Open, Closed}
 use Rattle.esc_distinct.specs.Groups.{AreBroken}
 use Rattle.esc_distinct.specs.declared.record.GroupRec.{GroupRec}
-use Rattle.esc_branch.specs.declared.branch.Branch.{Branch}
 use Rattle.esc_simplex.specs.Senses.{Sense}
 use Rattle.esc_simplex.specs.declared.stop.Stop.{Stop}
 use Rattle.esc_simplex.specs.declared.stop.Stop.TheVariants as stop
@@ -116,15 +115,15 @@ module _ {T : Type 0} (is_sound : T → Type 0) (admits : T → Assignment → T
           graph = kept_graph apart_before at.shared a b at.sides;
         })) (sym at.asserted) holds)
 
-    pub apart_step : Branch → (state : State) → (state ≡ Open → IsMet exit)
+    pub apart_step : (state : State) → (state ≡ Open → IsMet exit)
         → (state ≡ Closed → SameClass (number_of entry.graph) a b)
         → StepEnds (seen is_sound admits numbers_of (record entry { graph = exit }))
         (IsUnsettled (seen is_sound admits numbers_of (record entry { graph = exit }))
         (SameClass (number_of entry.graph))) (Ok state)
-    apart_step like Open met same = at_apart (λ w. IsUnsettled w (SameClass (number_of entry.graph)))
+    apart_step Open met same = at_apart (λ w. IsUnsettled w (SameClass (number_of entry.graph)))
         (apart_open apart_before at.shared a b at.sides (subst IsMet forbids (met refl)))
-    apart_step like Closed met same = at_apart (λ w. HaveNoModel (literals_in w))
-        (apart_closed apart_before at.shared a b at.sides like (same refl))
+    apart_step Closed met same = at_apart (λ w. HaveNoModel (literals_in w))
+        (apart_closed apart_before at.shared a b at.sides (same refl))
 
 -- ---- equations
 
@@ -155,20 +154,20 @@ module _ {T : Type 0} (is_sound : T → Type 0) (admits : T → Assignment → T
       (subst (λ lits. P (record (seen is_sound admits numbers_of joined) { asserted = lits }))
       (sym at.asserted) holds)
 
-  pub equal_step : Branch → IsGraph exit.graph → (state : State)
+  pub equal_step : IsGraph exit.graph → (state : State)
       → (state ≡ Open → IsMet exit.graph × (AreBroken (number_of exit.graph) entry.groups → ⊥))
       → (state ≡ Closed
       → IsBroken exit.graph ⊎ AreBroken (number_of exit.graph) entry.groups)
       → StepEnds (seen is_sound admits numbers_of exit)
       (IsUnsettled (seen is_sound admits numbers_of exit) (SameClass (number_of entry.graph)))
       (Ok state)
-  equal_step like graph Open opens closes =
+  equal_step graph Open opens closes =
       at_equal (λ w. IsUnsettled w (SameClass (number_of entry.graph)))
       (equal_open equal_before at.shared a b at.sides merges least (subst IsGraph others graph)
       (subst IsMet others (opens refl).0) (opens refl).1)
-  equal_step like graph Closed opens closes =
+  equal_step graph Closed opens closes =
       at_equal (λ w. HaveNoModel (literals_in w))
-      (equal_closed equal_before at.shared a b at.sides merges least like
+      (equal_closed equal_before at.shared a b at.sides merges least
       (subst IsGraph others graph)
       (elim (closes refl) [
         | inl inside ↦ inl (subst IsBroken others inside)

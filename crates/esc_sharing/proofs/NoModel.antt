@@ -14,8 +14,7 @@ use Rattle.esc_union.specs.Merges.{SameClass}
 use Rattle.esc_egraph.specs.Congruence.{IsBroken}
 use Rattle.esc_egraph.specs.Graph.{IsGraph, number_of}
 use Rattle.esc_distinct.specs.Groups.{AreBroken}
-use Rattle.esc_branch.specs.declared.branch.Branch.{Branch}
-use Rattle.esc_branch.proofs.Values.{not_broken, not_twice}
+use Rattle.esc_node_terms.proofs.Values.{not_broken, not_twice}
 use Rattle.esc_sharing.specs.Literals.{group_item, item_of}
 use Rattle.esc_sharing.specs.Nodes.{node_count, node_term}
 use Rattle.esc_sharing.specs.Numbers.{AreNumbersOf}
@@ -27,7 +26,7 @@ use Rattle.esc_sharing.specs.declared.literal.Lit.TheVariants.{Equal, Apart, Bel
 use Rattle.esc_sharing.proofs.Consistent.{asserted_literal, group_literal}
 use Rattle.esc_sharing.proofs.Demanded.{demanded_values}
 use Rattle.esc_sharing.proofs.Exactness.{GivesOneValue, satisfying_admitted}
-use Rattle.esc_sharing.proofs.Kept.{denied_item, kept_branch, kept_is_told, kept_items}
+use Rattle.esc_sharing.proofs.Kept.{are_kept, denied_item, kept_items}
 use Rattle.esc_sharing.proofs.Least.{number_of_node}
 use Rattle.esc_sharing.proofs.Lists.{All-each}
 use Rattle.esc_sharing.proofs.ModelValues.{asked-model, assignment_of, value-model}
@@ -41,7 +40,7 @@ module _ (v : Shared) (demanded : JoinsDemanded v) (M : Model)
 
   -- ---- what is kept apart
 
-  module _ (like : Branch) (forbidden : v.graph.forbidden ≡ flat_map denied_pair v.asserted) where
+  module _ (forbidden : v.graph.forbidden ≡ flat_map denied_pair v.asserted) where
     denied_holds : (pair : ℕ × ℕ) (lit : Lit) → Contains v.asserted lit
         → Contains (denied_pair lit) pair → HoldsIn M (denied_item v.graph pair)
     denied_holds pair (Equal a b) h k = absurd (Contains-none pair k)
@@ -55,7 +54,7 @@ module _ (v : Shared) (demanded : JoinsDemanded v) (M : Model)
     denied_holds pair (Below a b) h k = absurd (Contains-none pair k)
     denied_holds pair (AtMost a b) h k = absurd (Contains-none pair k)
 
-    kept_holds : All (HoldsIn M) (kept_items like v.graph v.groups)
+    kept_holds : All (HoldsIn M) (kept_items v.graph v.groups)
     kept_holds =
         All-append (HoldsIn M) (map (denied_item v.graph) v.graph.forbidden)
         (map (group_item v.graph) v.groups)
@@ -73,11 +72,11 @@ module _ (v : Shared) (demanded : JoinsDemanded v) (M : Model)
     nothing_joined : IsGraph v.graph → All (All (λ n. n < node_count v.graph)) v.groups
         → IsBroken v.graph ⊎ AreBroken (number_of v.graph) v.groups → ⊥
     nothing_joined graph members (inl broken) =
-        not_broken (kept_branch like v.graph v.groups)
-        (kept_is_told like v.graph v.groups graph members) M kept_holds values broken
+        not_broken v.graph v.groups (kept_items v.graph v.groups)
+        (are_kept v.graph v.groups graph members) M kept_holds values broken
     nothing_joined graph members (inr broken) =
-        not_twice (kept_branch like v.graph v.groups)
-        (kept_is_told like v.graph v.groups graph members) M kept_holds values broken
+        not_twice v.graph v.groups (kept_items v.graph v.groups)
+        (are_kept v.graph v.groups graph members) M kept_holds values broken
 
   -- ---- what is told
 
@@ -111,12 +110,12 @@ module _ (v : Shared) (demanded : JoinsDemanded v) (M : Model)
         (λ item so. asked-model M item so) (literals_in v) holds) model_gives
 
 -- what is kept apart stands in one class
-pub broken_no_model : (v : Shared) (like : Branch) → JoinsDemanded v → IsGraph v.graph
+pub broken_no_model : (v : Shared) → JoinsDemanded v → IsGraph v.graph
     → v.graph.forbidden ≡ flat_map denied_pair v.asserted
     → All (All (λ n. n < node_count v.graph)) v.groups
     → IsBroken v.graph ⊎ AreBroken (number_of v.graph) v.groups → HaveNoModel (literals_in v)
-broken_no_model v like demanded graph forbidden members broken M holds =
-    nothing_joined v demanded M holds like forbidden graph members broken
+broken_no_model v demanded graph forbidden members broken M holds =
+    nothing_joined v demanded M holds forbidden graph members broken
 
 -- told pairs have one value in each model
 pub told_follow : (v : Shared) → JoinsDemanded v → AreNumbersOf v.graph v.numbers

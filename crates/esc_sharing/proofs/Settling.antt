@@ -8,7 +8,6 @@ use Rattle.esc_trail.proofs.Noting.{notes_nothing}
 use Rattle.esc_egraph.specs.declared.record.EgraphRec.{EgraphRec}
 use Rattle.esc_distinct.specs.declared.record.GroupRec.{GroupRec}
 use Rattle.esc_simplex.specs.Senses.{Sense}
-use Rattle.esc_branch.specs.declared.branch.Branch.{Branch}
 use Rattle.esc_sharing.specs.Admitted.{AreEqualBy, AreTwoNumbers, NextEnds}
 use Rattle.esc_sharing.specs.Numbers.{AddsMade, number_terms}
 use Rattle.esc_sharing.specs.SettlingInside.{AllAgree, IsUnsettled, Keeps}
@@ -88,11 +87,11 @@ module _ {T Q : Type 0} (undo : Undo T Q) (law : IsLawful undo) (is_sound : T �
       (λ x admitted. agree x (back x admitted))
 
   -- nothing is left to be told
-  pub asked_shared : (Known : ℕ → ℕ → Type 0) → Branch → IsUnsettled v Known → is_sound exit → AllAgree v
+  pub asked_shared : (Known : ℕ → ℕ → Type 0) → IsUnsettled v Known → is_sound exit → AllAgree v
       → NextEnds entry.graph (numbers_of entry.theory) (admits entry.theory) (Ok None)
       → IsShared (seen is_sound admits numbers_of (record entry { theory = exit }))
-  asked_shared Known like is sound agree none =
-      settled (seen is_sound admits numbers_of (record entry { theory = exit })) Known like
+  asked_shared Known is sound agree none =
+      settled (seen is_sound admits numbers_of (record entry { theory = exit })) Known
       (asked_unsettled Known is sound) (asked_agree agree)
       (λ a b two.
       let parted = none a b (of_asked_two a b two) in

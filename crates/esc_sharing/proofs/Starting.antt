@@ -11,8 +11,7 @@ use Rattle.esc_nodes.specs.Terms.{at_place, built, terms_of}
 use Rattle.esc_union.specs.Merges.{SameClass}
 use Rattle.esc_egraph.specs.Congruence.{IsKnown, IsMade, IsMet}
 use Rattle.esc_egraph.specs.Graph.{Graph, IsGraph, number_of}
-use Rattle.esc_branch.specs.declared.branch.Branch.{Branch}
-use Rattle.esc_branch.proofs.Together.{length-terms_of}
+use Rattle.esc_node_terms.proofs.Places.{length-terms_of}
 use Rattle.esc_sharing.specs.Admitted.{both_gaps}
 use Rattle.esc_sharing.specs.Literals.{AreSides, item_of}
 use Rattle.esc_sharing.specs.Nodes.{node_term, terms_in}
@@ -93,8 +92,8 @@ module _ (v : Shared) (truth : Term) (graph : IsGraph v.graph) (met : IsMet v.gr
     known_equal = λ a b an bn same. absurd (no_number a an);
   }
 
-  pub starts : Branch → Assignment → IsShared v
-  starts like x =
-      settled v (SameClass (number_of v.graph)) like (at_start x)
+  pub starts : Assignment → IsShared v
+  starts x =
+      settled v (SameClass (number_of v.graph)) (at_start x)
       (λ y admitted a b an bn same. absurd (no_number a an))
       (λ a b two. absurd (no_number a two.first))

@@ -7,7 +7,6 @@ use Rattle.esc_nodes.specs.Terms.{term_of}
 use Rattle.esc_sharing.specs.Numbers.{IsNumber}
 use Rattle.esc_union.specs.Merges.{SameClass, class_number}
 use Rattle.esc_egraph.specs.Graph.{Adds, number_of}
-use Rattle.esc_branch.specs.declared.branch.Branch.{Branch}
 use Rattle.esc_sharing.specs.Admitted.{ArePartedBy, AreTwoNumbers}
 use Rattle.esc_sharing.specs.Nodes.{node_term}
 use Rattle.esc_sharing.specs.SettlingInside.{AllAgree, IsUnsettled}
@@ -18,17 +17,17 @@ use Rattle.esc_sharing.proofs.Kept.{kept_consistent}
 use Rattle.esc_sharing.proofs.Least.{demanded_by_least, equations_together, least_by_demand}
 
 -- nothing is left to be told
-pub settled : (v : Shared) (Known : ℕ → ℕ → Type 0) (like : Branch) → IsUnsettled v Known → AllAgree v
+pub settled : (v : Shared) (Known : ℕ → ℕ → Type 0) → IsUnsettled v Known → AllAgree v
     → ((a b : ℕ) → AreTwoNumbers v.graph v.numbers a b
     → ArePartedBy v.admits (node_term v.graph a) (node_term v.graph b)) → IsShared v
-settled v Known like is one_value parted =
+settled v Known is one_value parted =
     let agree : Agree v = record { one_value = one_value; parted = parted } in
     record {
       parts = is.parts;
-      least = least_by_demand v is.parts is.exact agree like is.demanded;
-      consistent = consistent_with v like is.parts.forbidden is.some.0
+      least = least_by_demand v is.parts is.exact agree is.demanded;
+      consistent = consistent_with v is.parts.forbidden is.some.0
           (admitted_satisfies v is.exact is.some.0 is.some.1)
-          (kept_consistent like v.graph v.groups is.parts.graph is.parts.members is.parts.met
+          (kept_consistent v.graph v.groups is.parts.graph is.parts.members is.parts.met
           is.parts.unbroken) (equations_together v is.parts);
       exact = is.exact;
       some = is.some;
@@ -67,9 +66,9 @@ module _ (v w : Shared) (agree : Agree v) (numbers : w.numbers ≡ v.numbers)
   old : (a : ℕ) → IsNumber w.numbers a → IsNumber v.numbers a
   old a h = subst (λ ns. IsNumber ns a) numbers h
 
-  pub quiet_shared : (Known : ℕ → ℕ → Type 0) → Branch → IsUnsettled w Known → IsShared w
-  quiet_shared Known like is =
-      settled w Known like is
+  pub quiet_shared : (Known : ℕ → ℕ → Type 0) → IsUnsettled w Known → IsShared w
+  quiet_shared Known is =
+      settled w Known is
       (λ x admitted a b an bn same.
       ap (value x) (term_is a)
       ∙ (agree.one_value x (back x admitted) a b (old a an) (old b bn)

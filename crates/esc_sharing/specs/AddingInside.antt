@@ -11,7 +11,7 @@ use Rattle.esc_union.specs.Merges.{SameClass}
 use Rattle.esc_nodes.specs.Nodes.{Shape}
 use Rattle.esc_egraph.specs.Congruence.{IsLeast, IsMet, SameAmong}
 use Rattle.esc_egraph.specs.Graph.{Graph, IsGraph, number_of}
-use Rattle.esc_branch.specs.StartingInside.{AreNodesOf}
+use Rattle.esc_node_terms.specs.Nodes.{AreNodesOf}
 use Rattle.esc_sharing.specs.Numbers.{IsNumber}
 
 -- ---- the graph

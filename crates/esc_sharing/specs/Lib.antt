@@ -8,7 +8,7 @@ pub mod ClassesInside
 pub mod KnownInside
 pub mod Literals
 pub mod ModelLaws
-pub mod Nodes
+pub use Rattle.esc_node_terms.specs.Nodes
 pub mod Numbers
 pub mod SettlingInside
 pub mod Shared

@@ -9,7 +9,7 @@ ghost use Rattle.esc_nodes.specs.Terms.{built};
 ghost use Rattle.esc_egraph.specs.Congruence.{IsMet};
 ghost use Rattle.esc_egraph.specs.Graph.{IsGraph};
 ghost use Rattle.esc_egraph.specs.GraphUndo.{graph_undo};
-ghost use Rattle.esc_branch.specs.StartingInside.{AreNodesOf};
+ghost use Rattle.esc_node_terms.specs.Nodes.{AreNodesOf};
 ghost use Rattle.esc_sharing.specs.AddingInside.{Gathers, IsGrown, is_sum, named, named_nodes};
 ghost use Rattle.esc_sharing.specs.Calls.{IsNodeOf};
 ghost use Rattle.esc_sharing.specs.Nodes.{node_term, terms_in};
@@ -22,7 +22,7 @@ use std::alloc::{AllocError, Global};
 /// The node of a term, which is made with those of its subterms where it was not there. The nodes
 /// that become arithmetic come behind the numbers.
 #[cycle(make_term)]
-#[tactic(auto, using(esc_branch::proofs::Walking::brought))]
+#[tactic(auto, using(esc_node_terms::proofs::Walking::brought))]
 pub(crate) fn make_term<R: CarriesNodes>(
     graph: &mut EGraph,
     term: &Term,

@@ -1,4 +1,4 @@
-use Rattle.std.proofs.Common.{◌≡◌, ◌<◌, map, ap, ap₂, sym, subst, ◌∙◌}
+use Rattle.std.proofs.Common.{◌<◌, map, ap, ap₂, sym, subst, ◌∙◌}
 use Rattle.std.specs.List.{All}
 use Rattle.esc_term.specs.declared.formula.Formula.TheVariants as formula
 use Rattle.esc_sharing.specs.Nodes.{node_count, node_term}

@@ -1,6 +1,5 @@
-use Rattle.std.proofs.Common.{◌≤◌, Some, length, map, arith, sym, ap, subst}
+use Rattle.std.proofs.Common.{Some, map, arith, sym, ap, subst}
 use Rattle.std.proofs.lemmas.Bool.{ltb-false}
-use Rattle.esc_term.specs.declared.formula.Formula.{Formula}
 use Rattle.esc_term.specs.declared.formula.Formula.TheViews.{out-Formula}
 use Rattle.esc_sharing.specs.Nodes.{node_term}
 use Rattle.esc_book.specs.Book.{HasNodes, heads_of}

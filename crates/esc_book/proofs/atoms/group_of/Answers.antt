@@ -1,4 +1,4 @@
-use Rattle.std.proofs.Common.{◌≤◌, Some, length, arith, sym, ap, subst}
+use Rattle.std.proofs.Common.{Some, arith, sym, ap, subst}
 use Rattle.std.proofs.lemmas.Bool.{ltb-false}
 use Rattle.esc_term.specs.declared.formula.Formula.TheVariants as formula
 use Rattle.esc_book.specs.Atom.{IsGroupOf}

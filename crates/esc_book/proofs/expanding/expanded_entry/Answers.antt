@@ -1,4 +1,4 @@
-use Rattle.std.proofs.Common.{◌≡◌, ◌∷◌, [], ◌≤◌, length, not, true, false, arith, sym, ap, ◌∙◌}
+use Rattle.std.proofs.Common.{◌∷◌, [], not, true, false, arith, sym, ap, ◌∙◌}
 use Rattle.std.proofs.lemmas.Bool.{ltb-false}
 use Rattle.esc_clause.specs.Expansion.{OneOfEach, from_place}
 use Rattle.esc_book.specs.Book.{heads_of}

@@ -1,7 +1,5 @@
-use Rattle.std.proofs.Common.{◌≡◌, ◌≤◌, length, arith, sym, ap, ◌∙◌, subst}
+use Rattle.std.proofs.Common.{arith, sym}
 use Rattle.std.proofs.lemmas.Bool.{ltb-false}
-use Rattle.esc_book.specs.Book.{told}
-use Rattle.esc_book.specs.ReadingInside.{begin_at}
 use Rattle.esc_book.specs.Book.{heads_of}
 use Rattle.esc_book.proofs.Reading.{begin_there, get-within, length-page}
 use Rattle.esc_book.proofs.page.begin_of.Goals as goal

@@ -1,4 +1,4 @@
-use Rattle.std.proofs.Common.{◌≤◌, length, arith, sym}
+use Rattle.std.proofs.Common.{arith, sym}
 use Rattle.std.proofs.lemmas.Bool.{ltb-false}
 use Rattle.esc_book.specs.Book.{heads_of}
 use Rattle.esc_book.proofs.Reading.{get-within, length-page, next_there}

@@ -1,4 +1,4 @@
-use Rattle.std.proofs.Common.{◌≡◌, ◌+◌, arith}
+use Rattle.std.proofs.Common.{arith}
 use Rattle.esc_book.proofs.Pairs.{pair_count-more}
 use Rattle.esc_book.proofs.writing.behind_pairs.Goals as goal
 

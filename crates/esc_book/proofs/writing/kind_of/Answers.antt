@@ -1,4 +1,4 @@
-use Rattle.std.proofs.Common.{inl, inr, refl}
+use Rattle.std.proofs.Common.{inl, inr}
 use Rattle.std.specs.List.{Contains}
 use Rattle.esc_sharing.specs.Nodes.{terms_in}
 use Rattle.esc_book.proofs.Inside.{terms-distinct, terms-sides}

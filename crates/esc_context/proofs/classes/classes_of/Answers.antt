@@ -6,7 +6,7 @@ use Rattle.std.proofs.lemmas.List.Elements.{All-push}
 use Rattle.esc_union.specs.Merges.{IsClassOf}
 use Rattle.esc_egraph.specs.Graph.{Graph, number_of}
 use Rattle.esc_cover.specs.Classes.{leaders}
-use Rattle.esc_branch.proofs.Together.{length-terms_of}
+use Rattle.esc_node_terms.proofs.Places.{length-terms_of}
 use Rattle.esc_sharing.specs.Nodes.{classes_in, node_count, node_term, same_in, terms_in}
 use Rattle.esc_outcome.specs.Found.{members_of}
 use Rattle.esc_outcome.specs.declared.counterexample.Class.{Class}

@@ -4,8 +4,8 @@ use Rattle.esc_term.specs.Term.{is_ground, subterms, with_once}
 use Rattle.esc_trail.proofs.Lawful.{equal_is_lawful}
 use Rattle.esc_trail.proofs.Noting.{notes_both}
 use Rattle.esc_egraph.specs.GraphUndo.{CanGoBack, graph_back, graph_undo}
-use Rattle.esc_branch.proofs.Falling.{falls-args, falls-item, term_size}
-use Rattle.esc_branch.proofs.Walking.{args_are_ground, brought_more, each_passes}
+use Rattle.esc_node_terms.proofs.TermSize.{falls-args, falls-item, term_size}
+use Rattle.esc_node_terms.proofs.Walking.{args_are_ground, brought_more, each_passes}
 use Rattle.esc_sharing.specs.AddingInside.{named_nodes}
 use Rattle.esc_sharing.specs.Nodes.{node_term, terms_in}
 use Rattle.esc_sharing.proofs.Gathered.{gathers-Num, gathers_made, gathers_more, node_made}

@@ -3,8 +3,8 @@ use Rattle.std.specs.List.{flat_map, fold}
 use Rattle.esc_term.specs.Term.{subterms, with_once}
 use Rattle.esc_trail.specs.Undo.{Notes}
 use Rattle.esc_egraph.specs.GraphUndo.{graph_undo}
-use Rattle.esc_branch.proofs.Falling.{term_size}
-use Rattle.esc_branch.specs.StartingInside.{AreNodesOf}
+use Rattle.esc_node_terms.proofs.TermSize.{term_size}
+use Rattle.esc_node_terms.specs.Nodes.{AreNodesOf}
 use Rattle.esc_sharing.specs.AddingInside.{Gathers, IsGrown, named}
 use Rattle.esc_sharing.specs.Nodes.{terms_in}
 use Rattle.esc_sharing.proofs.nodes.+make_term.Given as goal

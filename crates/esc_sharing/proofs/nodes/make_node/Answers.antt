@@ -1,5 +1,5 @@
 use Rattle.esc_nodes.specs.Nodes.{shape}
-use Rattle.esc_branch.proofs.Growing.{terms_grown}
+use Rattle.esc_node_terms.proofs.MadeTerms.{terms_grown}
 use Rattle.esc_sharing.proofs.Growing.{grown_node, node_grown}
 use Rattle.esc_sharing.proofs.nodes.make_node.Goals as goal
 

@@ -1,5 +1,4 @@
-use Rattle.std.proofs.Common.{◌≡◌, ◌≤◌, length, take, ap, arith, ◌∙◌}
-use Rattle.std.proofs.lemmas.List.{length-take-le}
+use Rattle.std.proofs.Common.{take, ap, arith, ◌∙◌}
 use Rattle.esc_book.specs.Book.{BookView}
 use Rattle.esc_book.proofs.Books.{book-cut, cut_done, view-same}
 use Rattle.esc_book.proofs.book.Book.cut.Goals as goal

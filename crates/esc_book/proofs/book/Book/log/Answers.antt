@@ -1,5 +1,5 @@
-use Rattle.std.proofs.Common.{◌≡◌, ◌∷◌, [], ◌++◌, Ok, Err, Result, OnErr, OnOk, List, refl, ap, sym}
-use Rattle.std.proofs.Common.{subst, append-nil, ◌∙◌}
+use Rattle.std.proofs.Common.{◌++◌, ap}
+use Rattle.std.proofs.Common.{◌∙◌}
 use Rattle.esc_book.specs.Book.{BookView}
 use Rattle.esc_book.proofs.Books.{book-longer, grown}
 use Rattle.esc_book.proofs.book.Book.log.Goals as goal

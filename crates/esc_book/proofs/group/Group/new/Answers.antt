@@ -1,4 +1,4 @@
-use Rattle.std.proofs.Common.{◌≡◌, ◌-◌, ◌++◌, length, ap, ◌∙◌}
+use Rattle.std.proofs.Common.{◌-◌, ◌++◌, length, ap, ◌∙◌}
 use Rattle.esc_book.specs.GroupInside.{rows_from}
 use Rattle.esc_book.proofs.Pairs.{rows_done, rows_step}
 use Rattle.esc_book.proofs.group.Group.new.Goals as goal

@@ -1,11 +1,10 @@
-use Rattle.std.proofs.Common.{rules, of_calls, ◌≡◌, ◌+◌, ◌-◌, ◌<◌, ◌≤◌, nat_le, true, false, length}
-use Rattle.std.proofs.Common.{None, Some, List, ℕ, drop, get_or, ap, ap₂, arith, refl, sym, subst, ◌∙◌}
+use Rattle.std.proofs.Common.{rules, of_calls, ◌≡◌, ◌+◌, ◌-◌, ◌<◌, nat_le, length}
+use Rattle.std.proofs.Common.{None, Some, List, ℕ, drop, get_or, ap, ap₂, arith, sym, subst, ◌∙◌}
 use Rattle.std.proofs.lemmas.Fn.{always_returns_same}
-use Rattle.std.proofs.lemmas.Grind.{common_steps}
 use Rattle.std.proofs.lemmas.List.{get_or_default}
 use Rattle.std.proofs.lemmas.List.Sorted.{IsPartitionedBy-leb}
 use Rattle.std.specs.List.{slice_get}
-use Rattle.std.specs.List.Sorted.{IsNonDecreasingBy, IsPartitionPoint}
+use Rattle.std.specs.List.Sorted.{IsNonDecreasingBy}
 use Rattle.esc_book.specs.GroupInside.{node_pairs, rows_from}
 use Rattle.esc_book.proofs.Pairs.{none_before, pair_is, rows_rise, start_within, length-rows_from}
 use Rattle.esc_book.proofs.Pairs.{other_past, other_there}
@@ -101,8 +100,8 @@ returns-in-Some c =
     c.as_slice-nodes.ensures ∙ get_or_default nodes (row - 1) c.index-nodes-row.result 0 within) in
     let pair = pair_is nodes rows c.args.number row are split bound (row - 1) one in
     let found = c.in-Some.ensures.lookup in
-    let there : slice_get (drop row c.as_slice-nodes.result.now) (c.args.number - c.index.result.now)
-    ≡ Some c.in-Some.other.now =
+    let there : slice_get (drop row c.as_slice-nodes.result.now)
+    (c.args.number - c.index.result.now) ≡ Some c.in-Some.other.now =
     other_there c.as_slice-nodes.result.now row (c.args.number - c.index.result.now)
     c.in-Some.other.now found.3.0 found.1 in
     subst (λ ns. Some (c.index-nodes-row.result, c.in-Some.other.now)

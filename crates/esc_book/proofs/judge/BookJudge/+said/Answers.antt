@@ -1,7 +1,6 @@
 use Rattle.std.proofs.Common.{◌≡◌, ◌+◌, ◌<◌, ◌≤◌, true, false, Some, length, sym, subst, arith}
 use Rattle.std.specs.List.{slice_get}
 use Rattle.std.proofs.lemmas.Bool.{ltb-false}
-use Rattle.esc_term.specs.declared.formula.Formula.{Formula}
 use Rattle.esc_book.specs.Book.{heads_of}
 use Rattle.esc_book.specs.JudgingInside.{cover_by, of_parts}
 use Rattle.esc_book.proofs.EntryForms.{first_behind, form_there, kind_there, no_parts}

@@ -1,4 +1,4 @@
-use Rattle.std.proofs.Common.{◌≡◌, None, Some, Option, ap, sym, ◌∙◌}
+use Rattle.std.proofs.Common.{None, Some, Option, sym, ◌∙◌}
 use Rattle.esc_term.specs.declared.formula.Formula.{Formula}
 use Rattle.esc_term.specs.declared.formula.Formula.TheVariants as formula
 use Rattle.esc_sharing.specs.Nodes.{node_term}

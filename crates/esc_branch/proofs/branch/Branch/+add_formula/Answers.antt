@@ -3,10 +3,12 @@ use Rattle.std.specs.List.{fold}
 use Rattle.esc_term.specs.Term.{subterms, with_once}
 use Rattle.esc_term.specs.Formula.{is_closed, terms_of}
 use Rattle.esc_branch.specs.View.{terms_in}
-use Rattle.esc_branch.proofs.Falling.{falls-item, falls-left, falls-part, falls-parts, falls-right}
+use Rattle.esc_branch.proofs.Falling.{falls-left, falls-part, falls-parts, falls-right}
+use Rattle.esc_node_terms.proofs.TermSize.{falls-item}
 use Rattle.esc_branch.proofs.Falling.{formula_size}
-use Rattle.esc_branch.proofs.Walking.{both_are_closed, both_are_ground, brought_both, brought_more}
-use Rattle.esc_branch.proofs.Walking.{each_passes, part_is_closed, parts_are_closed}
+use Rattle.esc_branch.proofs.Walking.{both_are_closed, both_are_ground, brought_both}
+use Rattle.esc_node_terms.proofs.Walking.{brought_more, each_passes}
+use Rattle.esc_branch.proofs.Walking.{part_is_closed, parts_are_closed}
 use Rattle.esc_branch.proofs.Walking.{places_are_ground, terms_of_formulas, terms_of_sides}
 use Rattle.esc_branch.proofs.branch.Branch.+add_formula.Goals as goal
 

@@ -2,8 +2,9 @@ use Rattle.std.proofs.Common.{ap, arith, sym, ◌∙◌}
 use Rattle.std.specs.List.{fold}
 use Rattle.esc_term.specs.Term.{is_ground, subterms, with_once}
 use Rattle.esc_branch.specs.View.{terms_in}
-use Rattle.esc_branch.proofs.Falling.{falls-args, falls-item, term_size}
-use Rattle.esc_branch.proofs.Walking.{args_are_ground, brought_more, each_passes, nodes_step}
+use Rattle.esc_node_terms.proofs.TermSize.{falls-args, falls-item, term_size}
+use Rattle.esc_branch.proofs.Walking.{nodes_step}
+use Rattle.esc_node_terms.proofs.Walking.{args_are_ground, brought_more, each_passes}
 use Rattle.esc_branch.proofs.branch.Branch.+add_term.Goals as goal
 
 pub add_term-add_terms-requires : goal.add_term-add_terms-requires

@@ -1,8 +1,9 @@
 use Rattle.std.proofs.Common.{◌≡◌, ◌+◌, ◌*◌, map, sum, take}
 use Rattle.std.specs.List.{flat_map, fold}
 use Rattle.esc_term.specs.Term.{subterms, with_once}
-use Rattle.esc_branch.proofs.Falling.{term_size}
-use Rattle.esc_branch.specs.StartingInside.{AreNodesOf, IsBare}
+use Rattle.esc_node_terms.proofs.TermSize.{term_size}
+use Rattle.esc_branch.specs.StartingInside.{IsBare}
+use Rattle.esc_node_terms.specs.Nodes.{AreNodesOf}
 use Rattle.esc_branch.specs.View.{terms_in}
 use Rattle.esc_branch.proofs.branch.Branch.+add_term.Given as goal
 

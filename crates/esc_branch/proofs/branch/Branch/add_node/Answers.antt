@@ -1,5 +1,6 @@
 use Rattle.esc_nodes.specs.Nodes.{shape}
-use Rattle.esc_branch.proofs.Growing.{bare_grown, term_grown, terms_grown}
+use Rattle.esc_branch.proofs.Growing.{bare_grown}
+use Rattle.esc_node_terms.proofs.MadeTerms.{term_grown, terms_grown}
 use Rattle.esc_branch.proofs.branch.Branch.add_node.Goals as goal
 
 pub returns-clause-bare : goal.returns-clause-bare

@@ -11,7 +11,7 @@ use Rattle.esc_branch.specs.View.{classes_in, same_in, term_at, terms_in}
 use Rattle.esc_branch.proofs.ClassTerms.{AreListed, class_terms, classes_on, classes_past}
 use Rattle.esc_branch.proofs.ClassTerms.{has_earlier, listed_on, listed_past, members}
 use Rattle.esc_branch.proofs.Listing.{class_there, rising}
-use Rattle.esc_branch.proofs.Together.{length-terms_of}
+use Rattle.esc_node_terms.proofs.Places.{length-terms_of}
 use Rattle.esc_branch.proofs.branch.Branch.classes.Goals.{then-not-index+in_ok-members+in_ok-class+in_ok-push}
 use Rattle.esc_branch.proofs.branch.Branch.classes.Goals.{else-not-index}
 use Rattle.esc_branch.proofs.branch.Branch.classes.Goals as goal

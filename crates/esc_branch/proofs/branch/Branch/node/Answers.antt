@@ -1,4 +1,4 @@
-use Rattle.esc_branch.proofs.Together.{node_of_term}
+use Rattle.esc_node_terms.proofs.Places.{node_of_term}
 use Rattle.esc_branch.proofs.branch.Branch.node.Goals as goal
 
 pub unreachable-requires : goal.unreachable-requires

@@ -1,4 +1,4 @@
-use Rattle.std.proofs.Common.{[], refl}
+use Rattle.std.proofs.Common.{refl}
 use Rattle.esc_sharing.proofs.AddedTerm.{mid_puts, mid_shared, put_notes}
 use Rattle.esc_sharing.proofs.Becoming.{gathers_for}
 use Rattle.esc_sharing.proofs.sharing.Sharing.add_nodes.Goals as goal
@@ -8,12 +8,6 @@ returns-clause-shared g c =
     mid_shared g.T.Theory.sound g.T.Theory.admits g.T.Theory.numbers c.args.self.now
     (record c.args.self.now { graph = c.make_term.new.graph }) refl c.requires.shared
     c.in_ok-node.ensures.grown
-    (record {
-      alloc = c.args.self.now.alloc;
-      graph = c.args.self.now.graph;
-      groups = c.args.self.now.groups;
-      literals = [];
-    })
 
 pub returns-clause-puts : goal.returns-clause-puts
 returns-clause-puts g c =

@@ -33,20 +33,10 @@ returns-in-Ok-clause-ends g c =
     (step_ends (record v { groups = c.add_group.new.self })
     (IsShared (record v { groups = c.add_group.new.self })) c.kept_apart.result
     (λ e. group_shared v c.requires.shared c.args.nodes.now c.requires.nodes
-    c.add_group.new.self c.in-Ok.ensures.ok (record {
-      alloc = c.args.self.now.alloc;
-      graph = c.args.self.now.graph;
-      groups = c.args.self.now.groups;
-      literals = [];
-    })
+    c.add_group.new.self c.in-Ok.ensures.ok
     (c.kept_apart.ensures.open e).1)
     (λ e. group_no_model v c.requires.shared c.args.nodes.now c.requires.nodes
-    c.add_group.new.self c.in-Ok.ensures.ok (record {
-      alloc = c.args.self.now.alloc;
-      graph = c.args.self.now.graph;
-      groups = c.args.self.now.groups;
-      literals = [];
-    })
+    c.add_group.new.self c.in-Ok.ensures.ok
     (elim (c.kept_apart.ensures.closed e) [
       | inl never ↦ absurd (open_not_closed never)
       | inr broken ↦ broken

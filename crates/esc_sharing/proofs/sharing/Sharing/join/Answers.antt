@@ -32,13 +32,7 @@ returns-in-Ok-clause-ends g c =
     (λ e. join_closed g.T.Theory.sound g.T.Theory.admits g.T.Theory.numbers c.args.self.now
     c.equate.new.self c.args.a c.args.b (AreKnownBy c.args.known.now) c.requires.unsettled
     c.requires.two c.requires.equal c.equate.ensures.rest c.equate.ensures.others
-    c.in-Ok.ensures.least
-    (record {
-      alloc = c.args.self.now.alloc;
-      graph = c.args.self.now.graph;
-      groups = c.args.self.now.groups;
-      literals = [];
-    }) c.in-Ok.ensures.graph (c.in-Ok.ensures.closed (ap Ok e)))
+    c.in-Ok.ensures.least c.in-Ok.ensures.graph (c.in-Ok.ensures.closed (ap Ok e)))
 
 pub returns-in-Ok-clause-fewer : goal.returns-in-Ok-clause-fewer
 returns-in-Ok-clause-fewer g c e =

@@ -58,13 +58,7 @@ returns-then-number_count-before-clause-ends g c =
     (terms_at c.args.self.now.graph c.args.nodes.now)
     (g.T.Theory.admits c.add_numbers.new.theory) (g.T.Theory.sound c.add_numbers.new.theory)
     c.add_numbers.ensures.sound c.add_numbers.ensures.of c.add_numbers.ensures.numbers
-    c.add_numbers.ensures.admits
-    (record {
-      alloc = c.args.self.now.alloc;
-      graph = c.args.self.now.graph;
-      groups = c.args.self.now.groups;
-      literals = [];
-    }) (omega arith)
+    c.add_numbers.ensures.admits (omega arith)
 
 pub returns-then-number_count-before-clause-keeps : goal.returns-then-number_count-before-clause-keeps
 returns-then-number_count-before-clause-keeps g c = record {

@@ -10,10 +10,4 @@ returns-clause-shared g c =
     c.in_ok-graph.ensures.graph c.in_ok-graph.ensures.met c.in_ok-graph.ensures.terms
     c.in_ok-graph.ensures.forbidden c.new.ensures c.new-2.ensures c.new-3.ensures
     c.requires.numbers c.requires.admits c.requires.sound
-    (record {
-      alloc = c.args.alloc;
-      graph = c.in_ok-graph.graph;
-      groups = c.new.result;
-      literals = [];
-    })
     (record { denominator = 1; positive = zero-lt-suc 0; numerator = λ t. pos 0 })

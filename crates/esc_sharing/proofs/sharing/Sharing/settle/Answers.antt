@@ -78,12 +78,6 @@ returns-in_default-clause-ends g c =
     g.T.Theory.admits g.T.Theory.numbers g.met.T.Theory.same_admits
     g.met.T.Theory.same_numbers c.tell_all.new.self c.next_equal.new.self
     c.next_equal.ensures.same (AreKnownBy c.tell_all.new.known)
-    (record {
-      alloc = c.tell_all.new.self.alloc;
-      graph = c.tell_all.new.self.graph;
-      groups = c.tell_all.new.self.groups;
-      literals = [];
-    })
     (subst (StepEnds _ _) answer c.tell_all.ensures.ends) c.next_equal.ensures.sound
     (c.tell_all.ensures.agree answer)
     (subst (NextEnds c.tell_all.new.self.graph (g.T.Theory.numbers c.tell_all.new.self.theory)

@@ -59,11 +59,5 @@ returns-then-is_quiet-clause-ends g c =
     (λ x h. subst (λ theory. g.T.Theory.admits theory x) same h)
     (λ x h. subst (λ theory. g.T.Theory.admits theory x) (sym same) h)
     (SameClass (number_of c.args.self.now.graph))
-    (record {
-      alloc = c.args.self.now.alloc;
-      graph = c.args.self.now.graph;
-      groups = c.args.self.now.groups;
-      literals = [];
-    })
     (subst (StepEnds _ _) (c.in_ok-take_literal.was ∙ ap Ok c.in-Open.is)
     c.take_literal.ensures.ends)

@@ -7,13 +7,7 @@ use Rattle.esc_sharing.proofs.sharing.Sharing.take_apart.Goals as goal
 pub returns-in-Ok-clause-ends : goal.returns-in-Ok-clause-ends
 returns-in-Ok-clause-ends g c =
     apart_step g.T.Theory.sound g.T.Theory.admits g.T.Theory.numbers c.args.self.now c.args.a
-    c.args.b c.requires.asserting c.forbid.new.self c.in-Ok.ensures.ok
-    (record {
-      alloc = c.args.self.now.alloc;
-      graph = c.args.self.now.graph;
-      groups = c.args.self.now.groups;
-      literals = [];
-    }) c.in-Ok.state c.in-Ok.ensures.met c.in-Ok.ensures.closed.0
+    c.args.b c.requires.asserting c.forbid.new.self c.in-Ok.ensures.ok c.in-Ok.state c.in-Ok.ensures.met c.in-Ok.ensures.closed.0
 
 pub returns-in-Ok-clause-keeps : goal.returns-in-Ok-clause-keeps
 returns-in-Ok-clause-keeps g c =

@@ -8,13 +8,7 @@ pub returns-in-Ok-clause-ends : goal.returns-in-Ok-clause-ends
 returns-in-Ok-clause-ends g c =
     equal_step g.T.Theory.sound g.T.Theory.admits g.T.Theory.numbers c.args.self.now
     c.equate.new.self c.args.a c.args.b c.requires.asserting c.equate.ensures.rest
-    c.equate.ensures.others c.in-Ok.ensures.least
-    (record {
-      alloc = c.args.self.now.alloc;
-      graph = c.args.self.now.graph;
-      groups = c.args.self.now.groups;
-      literals = [];
-    }) c.in-Ok.ensures.graph c.in-Ok.state (λ e. c.in-Ok.ensures.open (ap Ok e))
+    c.equate.ensures.others c.in-Ok.ensures.least c.in-Ok.ensures.graph c.in-Ok.state (λ e. c.in-Ok.ensures.open (ap Ok e))
     (λ e. c.in-Ok.ensures.closed (ap Ok e))
 
 pub returns-in-Ok-clause-keeps : goal.returns-in-Ok-clause-keeps

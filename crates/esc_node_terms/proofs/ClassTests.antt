@@ -6,12 +6,13 @@ use Rattle.std.proofs.lemmas.Bool.{eq-eqb, eqb-true}
 use Rattle.std.proofs.lemmas.Cmp.{nat_eq_equiv}
 use Rattle.esc_term.specs.declared.term.Term.{Term}
 use Rattle.esc_cover.specs.Classes.{together}
-use Rattle.esc_cover.proofs.ClassLemmas.{together_by}
+use Rattle.esc_cover.proofs.ClassLemmas.{of_together, together_by}
 use Rattle.esc_union.specs.Merges.{SameClass}
 use Rattle.esc_egraph.specs.Graph.{Graph, IsGraph, number_of}
-use Rattle.esc_branch.proofs.Together.{Contains-term_of, node_of_term, place-term_of}
-use Rattle.esc_sharing.specs.Nodes.{class_of_term, classes_in, node_count, node_term, same_in}
-use Rattle.esc_sharing.specs.Nodes.{terms_in}
+use Rattle.esc_node_terms.proofs.Places.{Contains-term_of, node_of_term, place-term_of}
+use Rattle.esc_node_terms.specs.Laws.{HaveNodesOfOneClass}
+use Rattle.esc_node_terms.specs.Nodes.{class_of_term, classes_in, node_count, node_term, same_in}
+use Rattle.esc_node_terms.specs.Nodes.{terms_in}
 
 pub same_in-equivalence : (g : Graph) → IsEquivalence (same_in g)
 same_in-equivalence g = record {
@@ -47,8 +48,7 @@ module _ (g : Graph) (graph : IsGraph g) where
 
   -- nodes of two terms that pass the test stand in one class
   pub nodes_of_same : (s t : Term) → Contains (terms_in g) s → Contains (terms_in g) t
-      → same_in g s t ≡ true → (a : ℕ) × (b : ℕ) × (a < node_count g) × (b < node_count g)
-      × (node_term g a ≡ s) × (node_term g b ≡ t) × SameClass (number_of g) a b
+      → same_in g s t ≡ true → HaveNodesOfOneClass g s t
   nodes_of_same s t hs ht e =
       let left = node_of_term g.nodes s hs in
       let right = node_of_term g.nodes t ht in (
@@ -62,3 +62,25 @@ module _ (g : Graph) (graph : IsGraph g) where
             (ap (λ u. same_in g u (node_term g right.0)) left.2
             ∙ (ap (same_in g s) right.2 ∙ e)),
       )
+
+  -- so do nodes of two terms that stand in one class
+  pub nodes_of_together : (s t : Term) → together (classes_in g) s t ≡ true
+      → HaveNodesOfOneClass g s t
+  unfolding classes_in
+  nodes_of_together s t e =
+      let found = of_together (same_in g) (same_in-equivalence g) (terms_in g) s t e in
+      nodes_of_same s t found.0 found.1 found.2
+
+  pub of_together_at : (a b : ℕ) → a < node_count g → b < node_count g
+      → together (classes_in g) (node_term g a) (node_term g b) ≡ true → SameClass (number_of g) a b
+  unfolding classes_in
+  of_together_at a b al bl e =
+      of_same_at a b al bl
+      (of_together (same_in g) (same_in-equivalence g) (terms_in g) (node_term g a) (node_term g b)
+      e).2
+
+  pub together_of_nodes : (s t : Term) → HaveNodesOfOneClass g s t
+      → together (classes_in g) s t ≡ true
+  together_of_nodes s t (a, b, al, bl, left, right, same) =
+      ap (λ u. together (classes_in g) u t) (sym left)
+      ∙ (ap (together (classes_in g) (node_term g a)) (sym right) ∙ together_at a b al bl same)

@@ -1,5 +1,5 @@
 -- Literals that are told apart by their form.
-use Rattle.std.proofs.Common.{◌≡◌, true, false, List, IsTrue, ap, sym, ◌∙◌}
+use Rattle.std.proofs.Common.{◌≡◌, true, false, List, ap, sym, ◌∙◌}
 use Rattle.esc_term.specs.declared.term.Term.{Term}
 use Rattle.esc_term.specs.declared.formula.Formula.{Formula, out-Formula}
 use Rattle.esc_term.specs.declared.formula.Formula.TheVariants as formula
@@ -8,7 +8,8 @@ use Rattle.esc_term.specs.declared.formula.Formula.TheOpen.{Formula-F}
 use Rattle.esc_term.specs.declared.formula.Formula.TheViews.{out-roll-Formula}
 use Rattle.esc_term.specs.declared.formula.Quant.{Quant}
 use Rattle.esc_term.specs.declared.formula.Item.{Item}
-use Rattle.esc_branch.specs.View.{denied, equated, is_branch_form, told_apart}
+use Rattle.esc_node_terms.specs.LiteralForms.{IsClassLiteral, denied, equated, is_class_form}
+use Rattle.esc_node_terms.specs.LiteralForms.{told_apart}
 
 pub out-Eq : (s t : Term) → out-Formula (formula.Eq s t) ≡ Formula-F.Eq s t
 out-Eq s t = ap out-Formula (sym (rolls-Eq s t)) ∙ out-roll-Formula (Formula-F.Eq s t)
@@ -58,9 +59,8 @@ pub denied_no_apart : (s t : Term) (ts : List Term) → denied s t ≡ told_apar
 denied_no_apart s t ts e = Eq_no_Distinct s t ts (ap (λ (item : Item). item.formula) e)
 
 pub form-Eq : (s t : Term) (positive : _) →
-    IsTrue (is_branch_form (out-Formula (formula.Eq s t)) positive)
-form-Eq s t positive = ap (λ form. is_branch_form form positive) (out-Eq s t)
+    IsClassLiteral (record { formula = formula.Eq s t; positive = positive })
+form-Eq s t positive = ap (λ form. is_class_form form positive) (out-Eq s t)
 
-pub form-Distinct : (ts : List Term) →
-    IsTrue (is_branch_form (out-Formula (formula.Distinct ts)) true)
-form-Distinct ts = ap (λ form. is_branch_form form true) (out-Distinct ts)
+pub form-Distinct : (ts : List Term) → IsClassLiteral (told_apart ts)
+form-Distinct ts = ap (λ form. is_class_form form true) (out-Distinct ts)

@@ -1,0 +1,6 @@
+//! Which report answers which command, and what stands then.
+#![tactic(auto)]
+
+mod laws;
+
+pub use laws::answer_laws;

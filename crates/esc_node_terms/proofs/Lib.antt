@@ -1,0 +1,11 @@
+pub mod Agreeing
+pub mod ClassTests
+pub mod Finest
+pub mod LiteralForms
+pub mod MadeTerms
+pub mod Once
+pub mod Places
+pub mod TermSize
+pub mod TwoPlaces
+pub mod Values
+pub mod Walking
