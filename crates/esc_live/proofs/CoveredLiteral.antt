@@ -24,8 +24,8 @@ use Rattle.esc_cover.proofs.CoverLevels as covers
 use Rattle.esc_cover.proofs.TestLemmas.{and_both, any_at, literal_at, not_true, or_left}
 use Rattle.esc_clause.specs.Laws.{IsCovered}
 use Rattle.esc_clause.specs.Occurrences.{signed}
-use Rattle.esc_branch.proofs.LiteralForms.{out-Distinct, out-Eq}
-use Rattle.esc_branch.proofs.TwoPlaces.{every_two_at, every_two_from, some_two_at}
+use Rattle.esc_node_terms.proofs.LiteralForms.{out-Distinct, out-Eq}
+use Rattle.esc_node_terms.proofs.TwoPlaces.{every_two_at, every_two_from, some_two_at}
 use Rattle.esc_live.specs.StandingInside.{item_sides, sides_form}
 
 module _ (literals : List Item) (play : InPlay) (classes : List (List Term))

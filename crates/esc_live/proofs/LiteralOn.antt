@@ -38,7 +38,7 @@ use Rattle.esc_term.specs.declared.formula.Formula.TheVariants as formula
 use Rattle.esc_term.specs.declared.formula.Formula.TheVariants.{rolls-Less}
 use Rattle.esc_term.specs.declared.formula.Formula.TheOpen.{Formula-F}
 use Rattle.esc_term.specs.declared.formula.Formula.TheViews.{out-roll-Formula}
-use Rattle.esc_branch.proofs.LiteralForms.{out-Distinct, out-Eq}
+use Rattle.esc_node_terms.proofs.LiteralForms.{out-Distinct, out-Eq}
 use Rattle.esc_sharing.specs.Literals.{group_item, item_of}
 use Rattle.esc_sharing.specs.declared.literal.Lit.{Lit}
 use Rattle.esc_sharing.specs.declared.literal.Lit.TheVariants.{Equal, Apart, Below, AtMost}

@@ -26,9 +26,9 @@ use Rattle.esc_nodes.specs.Terms.{at_place, term_of, terms_of}
 use Rattle.esc_egraph.specs.Graph.{Graph}
 use Rattle.esc_egraph.specs.declared.state.State.{State}
 use Rattle.esc_egraph.specs.declared.state.State.TheVariants.{Open, Closed}
-use Rattle.esc_branch.specs.View.{place_among}
-use Rattle.esc_branch.proofs.LiteralForms.{out-Distinct, out-Eq}
-use Rattle.esc_branch.proofs.Together.{Contains-term_of, place-term_of}
+use Rattle.esc_node_terms.specs.Nodes.{place_among}
+use Rattle.esc_node_terms.proofs.LiteralForms.{out-Distinct, out-Eq}
+use Rattle.esc_node_terms.proofs.Places.{Contains-term_of, place-term_of}
 use Rattle.esc_simplex.specs.Barred.{IsBarred}
 use Rattle.esc_simplex.specs.View.{IsSimplex, numbers_in, senses_in}
 use Rattle.esc_simplex.specs.declared.simplex.Simplex.{Simplex}
