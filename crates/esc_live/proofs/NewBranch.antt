@@ -1,6 +1,6 @@
 -- A branch of an empty log.
 use Rattle.std.proofs.Common.{◌≡◌, inl, inr, ℕ, true, false, ◌||◌, List, [], ◌∷◌, ◌++◌, refl, ap}
-use Rattle.std.proofs.Common.{sym, subst, ◌∙◌, arith, if◌then◌else◌}
+use Rattle.std.proofs.Common.{sym, subst, ◌∙◌, arith, cond}
 use Rattle.std.specs.Prelude.{◌↔◌, ◌<◌, Any, IsTrue}
 use Rattle.std.specs.List.{All, Contains, flat_map}
 use Rattle.std.proofs.lemmas.List.Elements.{All-nil}
@@ -33,7 +33,7 @@ use Rattle.esc_book.specs.Book.{BookView, IsLiveOccurrence}
 use Rattle.esc_simplex.specs.Senses.{senses_of}
 use Rattle.esc_simplex.specs.View.{IsSimplex, numbers_in}
 use Rattle.esc_simplex.specs.declared.simplex.Simplex.{Simplex}
-use Rattle.esc_sharing.specs.Literals.{group_item}
+use Rattle.esc_node_terms.proofs.Once.{with_once-absent}
 use Rattle.esc_sharing.specs.Nodes.{terms_in}
 use Rattle.esc_sharing.specs.Numbers.{number_terms}
 use Rattle.esc_sharing.specs.Shared.{IsShared, items_in, literals_in, play_in}
@@ -54,7 +54,8 @@ out-truth : out-Term truth_term ≡ Term-F.App truth_head []
 out-truth = ap out-Term (sym (rolls-App truth_head [])) ∙ out-roll-Term (Term-F.App truth_head [])
 
 active_none : active_terms [] ≡ truth_term ∷ []
-active_none = ap (λ b. firsts (if b then truth_term ∷ [] else [])) (is_ground-App truth_head [])
+active_none = ap (λ b. firsts (cond b (truth_term ∷ []) [])) (is_ground-App truth_head [])
+    ∙ with_once-absent [] truth_term (λ h. Contains-none truth_term h)
 
 not_arithmetic : is_arithmetic [] truth_term ≡ false
 not_arithmetic =
