@@ -1,7 +1,0 @@
-use Rattle.std.proofs.Common.{◌≡◌, take}
-use Rattle.std.specs.Prelude.{slice_get}
-use Rattle.std.specs.List.{filter_map}
-use Rattle.esc_search.proofs.search.Search.live.Given as goal
-
-abbrev pub invariant-live : goal.invariant-live
-invariant-live l = l.facts ≡ filter_map (slice_get l.self.log) (take l.place-index l.place-items)
