@@ -134,10 +134,16 @@ module _ (v : LiveBranch) (is : IsBranch v) (given : IsGiven v) (d : Decision)
     pub decide_goes_on : GoesOn v w
     decide_goes_on = record {
       book = steps.book ∙ ap (λ (x : LiveBranch). x.book) is_with;
-      literals = (steps.literals.0, steps.literals.1
-          ∙ ap (λ (x : LiveBranch). x.literals ++ steps.literals.0) is_with);
-      decisions = (d ∷ [], steps.decisions
-          ∙ ap (λ (x : LiveBranch). x.clauses.decisions) is_with);
+      literals = (
+        steps.literals.0,
+        steps.literals.1
+            ∙ ap (λ (x : LiveBranch). x.literals ++ steps.literals.0) is_with,
+      );
+      decisions = (
+        d ∷ [],
+        steps.decisions
+            ∙ ap (λ (x : LiveBranch). x.clauses.decisions) is_with,
+      );
       limit = steps.limit ∙ ap (λ (x : LiveBranch). x.sharing.theory.limit) is_with;
     }
 
@@ -152,7 +158,10 @@ pub goes_nowhere : (v w : LiveBranch) → w ≡ v → GoesOn v w
 goes_nowhere v w same = record {
   book = ap (λ (x : LiveBranch). x.book) same;
   literals = ([], ap (λ (x : LiveBranch). x.literals) same ∙ sym (append-nil v.literals));
-  decisions = ([], ap (λ (x : LiveBranch). x.clauses.decisions) same
-      ∙ sym (append-nil v.clauses.decisions));
+  decisions = (
+    [],
+    ap (λ (x : LiveBranch). x.clauses.decisions) same
+        ∙ sym (append-nil v.clauses.decisions),
+  );
   limit = ap (λ (x : LiveBranch). x.sharing.theory.limit) same;
 }

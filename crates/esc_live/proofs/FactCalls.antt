@@ -115,8 +115,11 @@ module _ (v m u : LiveBranch) (brought : m ≡ record v { sharing = m.sharing })
 
   module _ (w : LiveBranch) (steps : Steps u w) where
     pub steps_literals : AddsLiterals v w
-    steps_literals = (steps.literals.0, steps.literals.1
-        ∙ ap (λ (ls : List Occurrence). ls ++ steps.literals.0) literals_went)
+    steps_literals = (
+      steps.literals.0,
+      steps.literals.1
+          ∙ ap (λ (ls : List Occurrence). ls ++ steps.literals.0) literals_went,
+    )
 
     pub steps_logged : logged w ≡ logged v
     steps_logged = ap (λ (b : BookView). b.logged) steps.book

@@ -123,47 +123,47 @@ whole_there fs place f is =
 
 module _ (v : LiveBranch) (is : IsBranch v) (given : IsGiven v) (book_stays : BookStays)
     (t : Sharing Simplex) (f : Formula) (comes : play.Comes (shared_in v.sharing) (shared_in t))
-    where
-  abbrev w : LiveBranch
-  w = record v { sharing = t }
+  where
+    abbrev w : LiveBranch
+    w = record v { sharing = t }
 
-  alike : HaveSameUnquantified (literals_in (shared_in t)) (literals_on v)
-  alike = subst (λ ls. HaveSameUnquantified ls (literals_on v)) (sym comes.literals)
-      is.shared.asserted
+    alike : HaveSameUnquantified (literals_in (shared_in t)) (literals_on v)
+    alike = subst (λ ls. HaveSameUnquantified ls (literals_on v)) (sym comes.literals)
+        is.shared.asserted
 
-  asks : flat_map asked (literals_on v) ≡ flat_map asked (items_in (shared_in t))
-  asks = is.shared.asks ∙ ap (flat_map asked) (sym comes.items)
+    asks : flat_map asked (literals_on v) ≡ flat_map asked (items_in (shared_in t))
+    asks = is.shared.asks ∙ ap (flat_map asked) (sym comes.items)
 
-  shared_hold : (M : Model) → All (HoldsIn M) (literals_on v)
-      → All (HoldsIn M) (literals_in (shared_in t))
-  shared_hold M all = All-each (HoldsIn M) (literals_in (shared_in t)) (λ other h.
-      All-contains (HoldsIn M) (literals_on v) other all
-      ((alike other (plain_literals (shared_in t) other h)).0 h))
+    shared_hold : (M : Model) → All (HoldsIn M) (literals_on v)
+        → All (HoldsIn M) (literals_in (shared_in t))
+    shared_hold M all = All-each (HoldsIn M) (literals_in (shared_in t)) (λ other h.
+        All-contains (HoldsIn M) (literals_on v) other all
+        ((alike other (plain_literals (shared_in t) other h)).0 h))
 
-  book : IsBook t.graph v.book
-  book =
-      let more = terms_grow v.sharing.graph t.graph comes.nodes in
-      book_stays v.sharing.graph t.graph v.book more.0 is.book more.1
+    book : IsBook t.graph v.book
+    book =
+        let more = terms_grow v.sharing.graph t.graph comes.nodes in
+        book_stays v.sharing.graph t.graph v.book more.0 is.book more.1
 
-  brings_stop : (why : Stop) → Contains (logged v) f → StopsPlay v.sharing t f why
-      → IsStoppedAt w why × ((M : Model) → IsSoundIn M v → All (HoldsIn M) (literals_on w))
-  brings_stop why among stops =
-      let stopped = stops (logged v) (literals_on v) among given.given
-      (logged_literals v (literals_on v) is.shared.literals_are) is.shared.asks in (
-        record {
-          book = book;
-          occur = is.shared.occur;
-          stopped = record {
-            underway = stopped.underway;
-            jam = stopped.jam;
-            barred = stopped.barred;
-          };
-          told = All-weaker (AreEqualInModels (literals_in (shared_in t)))
-              (AreEqualInModels (literals_on v)) (λ pair h M all. h M (shared_hold M all))
-              (told_in (shared_in t)) stopped.underway.follow;
-        },
-        λ M so. so.literals,
-      )
+    brings_stop : (why : Stop) → Contains (logged v) f → StopsPlay v.sharing t f why
+        → IsStoppedAt w why × ((M : Model) → IsSoundIn M v → All (HoldsIn M) (literals_on w))
+    brings_stop why among stops =
+        let stopped = stops (logged v) (literals_on v) among given.given
+        (logged_literals v (literals_on v) is.shared.literals_are) is.shared.asks in (
+          record {
+            book = book;
+            occur = is.shared.occur;
+            stopped = record {
+              underway = stopped.underway;
+              jam = stopped.jam;
+              barred = stopped.barred;
+            };
+            told = All-weaker (AreEqualInModels (literals_in (shared_in t)))
+                (AreEqualInModels (literals_on v)) (λ pair h M all. h M (shared_hold M all))
+                (told_in (shared_in t)) stopped.underway.follow;
+          },
+          λ M so. so.literals,
+        )
 
 -- how it ends
 pub brings_by : (v : LiveBranch) → IsBranch v → IsGiven v → BookStays → (t : Sharing Simplex)

@@ -116,12 +116,12 @@ module _ (v : LiveBranch) (standing : IsStanding v) (given : IsGiven v) (at : Oc
       → Contains (literals_on v) other ⊎ (item ≡ other)
   cases other h = elim (Contains-append_cases (literals_on v) (item ∷ []) other
       (subst (λ is. Contains is other) literals_are h)) [
-    | inl old ↦ inl old
-    | inr new ↦ elim (Contains-cases item [] other new) [
-      | inl same ↦ inr same
-      | inr none ↦ absurd (Contains-none other none)
-    ]
-  ]
+        | inl old ↦ inl old
+        | inr new ↦ elim (Contains-cases item [] other new) [
+          | inl same ↦ inr same
+          | inr none ↦ absurd (Contains-none other none)
+        ]
+      ]
 
   alike : HaveSameUnquantified (literals_in (shared_in t)) (literals_on w)
   alike other plain = (

@@ -45,11 +45,11 @@ module _ (v : LiveBranch) (f : Formula) where
     pub logged_given : IsGiven v → IsGiven w
     logged_given given = elim at [
       | inl e ↦ subst (λ (x : BookView). IsGiven (record v { book = x })) (sym e) (record {
-          sound = given.sound;
-          given = given_by_more v.book.logged (v.book.logged ++ f ∷ []) v.sharing.theory
-              (All-each (Contains (v.book.logged ++ f ∷ [])) v.book.logged
-              (λ g h. Contains-append_left v.book.logged (f ∷ []) g h)) given.given;
-        })
+        sound = given.sound;
+        given = given_by_more v.book.logged (v.book.logged ++ f ∷ []) v.sharing.theory
+            (All-each (Contains (v.book.logged ++ f ∷ [])) v.book.logged
+            (λ g h. Contains-append_left v.book.logged (f ∷ []) g h)) given.given;
+      })
       | inr e ↦ subst (λ (x : BookView). IsGiven (record v { book = x })) (sym e) given
     ]
 

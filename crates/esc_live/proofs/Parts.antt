@@ -121,9 +121,13 @@ module _ (fs : List Formula) where
               (All-cons (IsPartIn fs at.fact) (right_at at p t) []
               (record { fact_is = refl; there = there_by (right_at at p t) q here.1 })
               (All-nil (IsPartIn fs at.fact)));
-          smaller = omega (arith, size_is (left_at at s) p here.0,
-              size_is (right_at at p t) q here.1, ap length is,
-              length-append (occurrences_of p) (occurrences_of q));
+          smaller = omega (
+            arith,
+            size_is (left_at at s) p here.0,
+            size_is (right_at at p t) q here.1,
+            ap length is,
+            length-append (occurrences_of p) (occurrences_of q),
+          );
         }
 
     -- ---- each form

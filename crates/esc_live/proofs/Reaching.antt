@@ -39,9 +39,12 @@ steps_same v w given is = subst (Steps v) (sym is) (steps_nothing v given)
 pub steps_both : (u v w : LiveBranch) → Steps u v → Steps v w → Steps u w
 steps_both u v w a b = record {
   book = b.book ∙ a.book;
-  literals = (a.literals.0 ++ b.literals.0, b.literals.1
-      ∙ (ap (λ (ls : List Occurrence). ls ++ b.literals.0) a.literals.1
-      ∙ append_assoc u.literals a.literals.0 b.literals.0));
+  literals = (
+    a.literals.0 ++ b.literals.0,
+    b.literals.1
+        ∙ (ap (λ (ls : List Occurrence). ls ++ b.literals.0) a.literals.1
+        ∙ append_assoc u.literals a.literals.0 b.literals.0),
+  );
   decisions = b.decisions ∙ a.decisions;
   given = b.given;
   limit = b.limit ∙ a.limit;

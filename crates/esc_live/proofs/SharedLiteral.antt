@@ -296,86 +296,86 @@ item_there : (fs : List Formula) (at : Occurrence) (f : Formula) → formula_at 
 item_there fs at f e = ap (option_map (signed at.positive)) e
 
 module _ (v : LiveBranch) (at : Occurrence) (t : Sharing Simplex) (result : Result State Stop)
-    where
-  abbrev w : LiveBranch
-  w = record v { sharing = t }
+  where
+    abbrev w : LiveBranch
+    w = record v { sharing = t }
 
-  comes_as : (f : Formula) (item : Item) → formula_at (logged v) at ≡ Some f
-      → item ≡ signed at.positive f
-      → All (Contains (terms_in v.sharing.graph)) (sides_form (out-Formula f))
-      → ShareEnds v.sharing t item result → Comes v w at result
-  comes_as f item there same sides ends = record {
-    item = signed at.positive f;
-    there = item_there (logged v) at f there;
-    sides = sides;
-    ends = subst (λ i. ShareEnds v.sharing t i result) same ends;
-  }
+    comes_as : (f : Formula) (item : Item) → formula_at (logged v) at ≡ Some f
+        → item ≡ signed at.positive f
+        → All (Contains (terms_in v.sharing.graph)) (sides_form (out-Formula f))
+        → ShareEnds v.sharing t item result → Comes v w at result
+    comes_as f item there same sides ends = record {
+      item = signed at.positive f;
+      there = item_there (logged v) at f there;
+      sides = sides;
+      ends = subst (λ i. ShareEnds v.sharing t i result) same ends;
+    }
 
-  node_there : (a : ℕ) → a < node_count v.sharing.graph
-      → Contains (terms_in v.sharing.graph) (node_term v.sharing.graph a)
-  node_there a al = Contains-term_of v.sharing.graph.nodes a al
+    node_there : (a : ℕ) → a < node_count v.sharing.graph
+        → Contains (terms_in v.sharing.graph) (node_term v.sharing.graph a)
+    node_there a al = Contains-term_of v.sharing.graph.nodes a al
 
-  nodes_there : (ns : List ℕ) → All (λ a. a < node_count v.sharing.graph) ns
-      → All (Contains (terms_in v.sharing.graph)) (map (node_term v.sharing.graph) ns)
-  nodes_there [] all = All-nil (Contains (terms_in v.sharing.graph))
-  nodes_there (n ∷ ns) all =
-      All-cons (Contains (terms_in v.sharing.graph)) (node_term v.sharing.graph n)
-      (map (node_term v.sharing.graph) ns)
-      (node_there n (All-head (λ a. a < node_count v.sharing.graph) n ns all))
-      (nodes_there ns (All-tail (λ a. a < node_count v.sharing.graph) n ns all))
+    nodes_there : (ns : List ℕ) → All (λ a. a < node_count v.sharing.graph) ns
+        → All (Contains (terms_in v.sharing.graph)) (map (node_term v.sharing.graph) ns)
+    nodes_there [] all = All-nil (Contains (terms_in v.sharing.graph))
+    nodes_there (n ∷ ns) all =
+        All-cons (Contains (terms_in v.sharing.graph)) (node_term v.sharing.graph n)
+        (map (node_term v.sharing.graph) ns)
+        (node_there n (All-head (λ a. a < node_count v.sharing.graph) n ns all))
+        (nodes_there ns (All-tail (λ a. a < node_count v.sharing.graph) n ns all))
 
-  pub comes_equal : (a b : ℕ)
-      → IsAtomOf v.sharing.graph (formula_at (logged v) at) (atom.Equal a b)
-      → ShareEnds v.sharing t (item_of v.sharing.graph (equation_lit a b at.positive)) result
-      → Comes v w at result
-  comes_equal a b is ends =
-      let s = node_term v.sharing.graph a in
-      let u = node_term v.sharing.graph b in
-      comes_as (formula.Eq s u) (item_of v.sharing.graph (equation_lit a b at.positive)) is.0
-      (same at.positive)
-      (subst (All (Contains (terms_in v.sharing.graph))) (sym (ap sides_form (out-Eq s u)))
-      (All-cons (Contains (terms_in v.sharing.graph)) s (u ∷ []) (node_there a is.1.0)
-      (All-cons (Contains (terms_in v.sharing.graph)) u [] (node_there b is.1.1)
-      (All-nil (Contains (terms_in v.sharing.graph)))))) ends
-    where
-      same : (p : Bool) → item_of v.sharing.graph (equation_lit a b p)
-          ≡ signed p (formula.Eq (node_term v.sharing.graph a) (node_term v.sharing.graph b))
-      same true = refl
-      same false = refl
+    pub comes_equal : (a b : ℕ)
+        → IsAtomOf v.sharing.graph (formula_at (logged v) at) (atom.Equal a b)
+        → ShareEnds v.sharing t (item_of v.sharing.graph (equation_lit a b at.positive)) result
+        → Comes v w at result
+    comes_equal a b is ends =
+        let s = node_term v.sharing.graph a in
+        let u = node_term v.sharing.graph b in
+        comes_as (formula.Eq s u) (item_of v.sharing.graph (equation_lit a b at.positive)) is.0
+        (same at.positive)
+        (subst (All (Contains (terms_in v.sharing.graph))) (sym (ap sides_form (out-Eq s u)))
+        (All-cons (Contains (terms_in v.sharing.graph)) s (u ∷ []) (node_there a is.1.0)
+        (All-cons (Contains (terms_in v.sharing.graph)) u [] (node_there b is.1.1)
+        (All-nil (Contains (terms_in v.sharing.graph)))))) ends
+      where
+        same : (p : Bool) → item_of v.sharing.graph (equation_lit a b p)
+            ≡ signed p (formula.Eq (node_term v.sharing.graph a) (node_term v.sharing.graph b))
+        same true = refl
+        same false = refl
 
-  pub comes_less : (a b : ℕ)
-      → IsAtomOf v.sharing.graph (formula_at (logged v) at) (atom.Less a b)
-      → ShareEnds v.sharing t (item_of v.sharing.graph (order_lit a b at.positive)) result
-      → Comes v w at result
-  comes_less a b is ends =
-      let s = node_term v.sharing.graph a in
-      let u = node_term v.sharing.graph b in
-      comes_as (formula.Less s u) (item_of v.sharing.graph (order_lit a b at.positive)) is.0
-      (same at.positive)
-      (subst (All (Contains (terms_in v.sharing.graph))) (sym (ap sides_form (out-Less s u)))
-      (All-nil (Contains (terms_in v.sharing.graph)))) ends
-    where
-      same : (p : Bool) → item_of v.sharing.graph (order_lit a b p)
-          ≡ signed p (formula.Less (node_term v.sharing.graph a) (node_term v.sharing.graph b))
-      same true = refl
-      same false = refl
+    pub comes_less : (a b : ℕ)
+        → IsAtomOf v.sharing.graph (formula_at (logged v) at) (atom.Less a b)
+        → ShareEnds v.sharing t (item_of v.sharing.graph (order_lit a b at.positive)) result
+        → Comes v w at result
+    comes_less a b is ends =
+        let s = node_term v.sharing.graph a in
+        let u = node_term v.sharing.graph b in
+        comes_as (formula.Less s u) (item_of v.sharing.graph (order_lit a b at.positive)) is.0
+        (same at.positive)
+        (subst (All (Contains (terms_in v.sharing.graph))) (sym (ap sides_form (out-Less s u)))
+        (All-nil (Contains (terms_in v.sharing.graph)))) ends
+      where
+        same : (p : Bool) → item_of v.sharing.graph (order_lit a b p)
+            ≡ signed p (formula.Less (node_term v.sharing.graph a) (node_term v.sharing.graph b))
+        same true = refl
+        same false = refl
 
-  pub comes_group : (nodes : List ℕ) → IsGroupOf v.sharing.graph (formula_at (logged v) at) nodes
-      → IsLiteralAt (logged v) at
-      → ShareEnds v.sharing t (group_item v.sharing.graph nodes) result → Comes v w at result
-  comes_group nodes is literal ends =
-      let ts = map (node_term v.sharing.graph) nodes in
-      comes_as (formula.Distinct ts) (group_item v.sharing.graph nodes) is.is
-      (ap (λ p. signed p (formula.Distinct ts)) (sym positive))
-      (subst (All (Contains (terms_in v.sharing.graph))) (sym (ap sides_form (out-Distinct ts)))
-      (nodes_there nodes is.nodes)) ends
-    where
-      positive : at.positive ≡ true
-      positive =
-          let ts = map (node_term v.sharing.graph) nodes in
-          sym (ap (λ form. is_literal_form form at.positive) (out-Distinct ts))
-          ∙ subst (λ o. IsSomeAnd o (λ item. IsTrue (is_literal_form (out-Formula item.formula)
-          item.positive))) (item_there (logged v) at (formula.Distinct ts) is.is) literal
+    pub comes_group : (nodes : List ℕ) → IsGroupOf v.sharing.graph (formula_at (logged v) at) nodes
+        → IsLiteralAt (logged v) at
+        → ShareEnds v.sharing t (group_item v.sharing.graph nodes) result → Comes v w at result
+    comes_group nodes is literal ends =
+        let ts = map (node_term v.sharing.graph) nodes in
+        comes_as (formula.Distinct ts) (group_item v.sharing.graph nodes) is.is
+        (ap (λ p. signed p (formula.Distinct ts)) (sym positive))
+        (subst (All (Contains (terms_in v.sharing.graph))) (sym (ap sides_form (out-Distinct ts)))
+        (nodes_there nodes is.nodes)) ends
+      where
+        positive : at.positive ≡ true
+        positive =
+            let ts = map (node_term v.sharing.graph) nodes in
+            sym (ap (λ form. is_literal_form form at.positive) (out-Distinct ts))
+            ∙ subst (λ o. IsSomeAnd o (λ item. IsTrue (is_literal_form (out-Formula item.formula)
+            item.positive))) (item_there (logged v) at (formula.Distinct ts) is.is) literal
 
 quantified_sides : (form : Formula-F Formula Quant) → is_quantified_form form ≡ true
     → sides_form form ≡ []

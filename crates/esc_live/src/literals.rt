@@ -52,8 +52,7 @@ impl LiveBranch {
 
     /// Puts an occurrence at the end of the literals. It fails only where memory is wanting, and
     /// then leaves all as it was.
-    fn push_literal(&mut self, at: Occurrence, trail: &mut Trail<LiveRec>)
-        -> Result<(), AllocError>
+    fn push_literal(&mut self, at: Occurrence, trail: &mut Trail<LiveRec>) -> Result<(), AllocError>
         ensures ok { OnOk result (self.new
             ≡ record self.old { literals = self.old.literals ++ at ∷ [] }) }
         ensures err { OnErr result (self.new ≡ self.old) }
@@ -83,7 +82,9 @@ impl LiveBranch {
             self.old self.new }
     {
         match self.book.atom(at) {
-            Atom::Equal(a, b) => self.sharing.assert_literal(equation(a, b, at.positive), trail),
+            Atom::Equal(a, b) => self
+                .sharing
+                .assert_literal(equation(a, b, at.positive), trail),
             Atom::Less(a, b) => self.sharing.assert_literal(order(a, b, at.positive), trail),
             Atom::Distinct => self.sharing.assert_group(self.book.group(at), trail),
             Atom::Quantified => Ok(State::Open),
