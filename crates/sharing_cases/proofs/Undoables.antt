@@ -1,21 +1,27 @@
 -- Scripts that can be taken back after a call as before it.
 use Rattle.std.proofs.Common.{◌≡◌, ◌≤◌, ℕ, List, [], ◌∷◌, ◌++◌, drop, take, length, map, refl, sym}
 use Rattle.std.proofs.Common.{ap, subst, ◌∙◌, arith, get_or, length-append}
-use Rattle.std.specs.Prelude.{IsTrue, Some}
+use Rattle.std.specs.Prelude.{Bool, IsTrue, Ok, Result, Some}
 use Rattle.std.specs.List.{All}
 use Rattle.std.proofs.lemmas.List.{drop_all, drop-append-le, length-take-le, take-append-drop}
 use Rattle.std.proofs.lemmas.List.Elements.{All-nil, All-push, All-pop, All-weaker}
+use Rattle.esc_term.specs.declared.term.Term.{Term}
 use Rattle.esc_trail.specs.Undo.{CanRewind, IsLawful, Notes, rewind}
 use Rattle.esc_trail.proofs.Noting.{keeps_mark}
 use Rattle.esc_trail.proofs.Rewinding.{CanRewind-split, rewind-append}
+use Rattle.esc_egraph.specs.declared.state.State.{State}
+use Rattle.esc_egraph.specs.declared.state.State.TheVariants.{Open}
 use Rattle.esc_simplex.proofs.BackIsSound.{back_is_sound}
 use Rattle.esc_simplex.specs.SimplexLaws.{simplex_lawful}
 use Rattle.esc_simplex.specs.SimplexUndo.{simplex_undo}
 use Rattle.esc_simplex.specs.View.{IsSimplex}
 use Rattle.esc_simplex.specs.declared.record.SimplexRec.{SimplexRec}
 use Rattle.esc_simplex.specs.declared.simplex.Simplex.{Simplex}
+use Rattle.esc_simplex.specs.declared.stop.Stop.{Stop}
+use Rattle.esc_sharing.specs.Calls.{AddEnds, AssertEnds}
 use Rattle.esc_sharing.specs.Shared.{IsShared}
 use Rattle.esc_sharing.specs.SharingUndo.{part_carried, sharing_lawful}
+use Rattle.esc_sharing.specs.declared.literal.Lit.{Lit}
 use Rattle.esc_sharing.specs.declared.record.PartRec.{PartRec}
 use Rattle.esc_sharing.specs.declared.record.PartRec.TheVariants.{Nodes, Groups, Lists, Theory}
 use Rattle.esc_sharing.specs.declared.record.ShareRec.TheVariants.{Asserted, Told}
@@ -87,6 +93,25 @@ module _ (s t : Script) (sound : IsSimplex t.owner.theory) (notes : NotesIn s t)
     rising = subst AreRising (sym levels) before.rising;
     goes = goes;
   }
+
+-- ---- after a call whose answer tells whether all is open
+
+pub undoable_added : (s t : Script) (term : Term) (side : Bool) (answer : Result (ℕ × State) Stop)
+    → IsSimplex t.owner.theory → NotesIn s t → t.levels.items ≡ s.levels.items
+    → AddEnds (shared_in s.owner) (shared_in t.owner) term side answer
+    → (IsTrue t.goes → (node : ℕ) × (answer ≡ Ok (node, Open))) → IsUndoable s → IsUndoable t
+undoable_added s t term side answer sound notes levels ends goes =
+    undoable_more s t sound notes levels (λ h.
+    (subst (AddEnds (shared_in s.owner) (shared_in t.owner) term side) (goes h).1 ends).3)
+
+pub undoable_asserted : (s t : Script) (lits : List Lit) (groups : List (List ℕ))
+    (answer : Result State Stop) → IsSimplex t.owner.theory → NotesIn s t
+    → t.levels.items ≡ s.levels.items
+    → AssertEnds (shared_in s.owner) (shared_in t.owner) lits groups answer
+    → (IsTrue t.goes → answer ≡ Ok Open) → IsUndoable s → IsUndoable t
+undoable_asserted s t lits groups answer sound notes levels ends goes =
+    undoable_more s t sound notes levels (λ h.
+    (subst (AssertEnds (shared_in s.owner) (shared_in t.owner) lits groups) (goes h) ends).1)
 
 -- ---- marks
 

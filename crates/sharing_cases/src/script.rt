@@ -1,6 +1,6 @@
 //! A sharing over the arithmetic, with its undo stack and the marks on it.
 
-ghost use Rattle.std.specs.Prelude.{◌≡◌, ◌<◌, ◌⊎◌, IfOk, IsTrue, Ok};
+ghost use Rattle.std.specs.Prelude.{◌≡◌, ◌<◌, IfOk, IsTrue};
 ghost use Rattle.std.specs.List.{All};
 ghost use Rattle.esc_simplex.specs.View.{numbers_in};
 ghost use Rattle.esc_term.specs.Term.{is_ground};
@@ -9,8 +9,8 @@ ghost use Rattle.esc_sharing.specs.Nodes.{node_count};
 ghost use Rattle.esc_sharing.specs.Numbers.{IsNumber};
 ghost use Rattle.sharing_cases.specs.Undoable.{IsUndoable};
 
-use crate::end::End;
-use esc_egraph::{Node, State};
+use crate::end::{End, ended, has_opened, is_open, node_in};
+use esc_egraph::Node;
 use esc_sharing::{Lit, PartRec, Sharing, Theory};
 use esc_simplex::{Simplex, SimplexRec, Stop};
 use esc_term::{Term, all_ground};
@@ -76,15 +76,9 @@ impl Script {
         if !self.goes || !has_no_variable(term) {
             return Err(End::NoTask);
         }
-        self.goes = false;
-        match self.owner.add_term(term, side, &mut self.trail) {
-            Ok((node, State::Open)) => {
-                self.goes = true;
-                Ok(node)
-            }
-            Ok((_, State::Closed)) => Err(End::Closed),
-            Err(stop) => Err(End::Stopped(stop)),
-        }
+        let added = self.owner.add_term(term, side, &mut self.trail);
+        self.goes = has_opened(&added);
+        node_in(added)
     }
 
     /// Asserts a literal.
@@ -95,9 +89,9 @@ impl Script {
         if !self.goes || !self.has_sides(&lit) {
             return Err(End::NoTask);
         }
-        self.goes = false;
         let state = self.owner.assert_literal(lit, &mut self.trail);
-        self.ended(state)
+        self.goes = is_open(&state);
+        ended(state)
     }
 
     /// Asserts that the nodes at any two places differ.
@@ -108,9 +102,9 @@ impl Script {
         if !self.goes || !self.has_nodes(nodes) {
             return Err(End::NoTask);
         }
-        self.goes = false;
         let state = self.owner.assert_group(nodes, &mut self.trail);
-        self.ended(state)
+        self.goes = is_open(&state);
+        ended(state)
     }
 
     /// Whether two terms in play stand in one class.
@@ -135,21 +129,6 @@ impl Script {
         match lit {
             Lit::Equal(a, b) | Lit::Apart(a, b) => self.has_node(*a) && self.has_node(*b),
             Lit::Below(a, b) | Lit::AtMost(a, b) => self.has_number(*a) && self.has_number(*b),
-        }
-    }
-
-    /// What an answer ends.
-    fn ended(&mut self, answer: Result<State, Stop>) -> Result<(), End>
-        ensures others { self.new ≡ record self.old { goes = self.new.goes } }
-        ensures open { IsTrue self.new.goes → IsTrue self.old.goes ⊎ (answer ≡ Ok State.Open) }
-    {
-        match answer {
-            Ok(State::Open) => {
-                self.goes = true;
-                Ok(())
-            }
-            Ok(State::Closed) => Err(End::Closed),
-            Err(stop) => Err(End::Stopped(stop)),
         }
     }
 
