@@ -2,7 +2,8 @@
 use Rattle.std.proofs.Common.{◌≤◌, ℕ, List, [], ◌∷◌, ◌++◌, refl}
 use Rattle.std.specs.Prelude.{Some}
 use Rattle.std.specs.List.{All}
-use Rattle.std.proofs.lemmas.List.Elements.{All-nil, All-cons, All-head, All-tail, All-push, All-pop}
+use Rattle.std.proofs.lemmas.List.Elements.{All-nil, All-cons, All-head, All-tail, All-push}
+use Rattle.std.proofs.lemmas.List.Elements.{All-pop}
 use Rattle.sharing_cases.specs.Undoable.{AreRising}
 
 pub rising_push : (ms : List ℕ) (m : ℕ) → AreRising ms → All (λ k. k ≤ m) ms
