@@ -66,8 +66,11 @@ NotesIn s t = Notes undo_of carried s.trail.records t.trail.records s.owner t.ow
 
 module _ (s t : Script) (sound : IsSimplex t.owner.theory) (notes : NotesIn s t) where
   longer : length s.trail.records ≤ length t.trail.records
-  longer = omega (arith, ap length notes.noted,
-      length-append s.trail.records (map carried notes.recs))
+  longer = omega (
+    arith,
+    ap length notes.noted,
+    length-append s.trail.records (map carried notes.recs),
+  )
 
   stands_more : (m : ℕ) → StandsAt s.owner s.trail.records m → StandsAt t.owner t.trail.records m
   stands_more m h =

@@ -67,12 +67,7 @@ fn of_terms(
     told(alloc, end)
 }
 
-fn of_some(
-    alloc: Global,
-    script: &mut Script,
-    task: &str,
-    terms: &[Term],
-) -> Result<Outcome, End>
+fn of_some(alloc: Global, script: &mut Script, task: &str, terms: &[Term]) -> Result<Outcome, End>
     requires { IsUndoable script.old }
     ensures { IsUndoable script.new }
 {
