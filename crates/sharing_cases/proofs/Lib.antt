@@ -1,0 +1,4 @@
+pub mod GroundForms
+pub mod Kept
+pub mod Rising
+pub mod Undoables
