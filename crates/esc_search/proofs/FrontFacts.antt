@@ -2,7 +2,7 @@
 use Rattle.std.proofs.Common.{◌≡◌, ◌⊎◌, ℕ, ◌<◌, ◌≤◌, ◌+◌, suc, Bool, true, false, IsTrue, List, [], ◌∷◌, ◌++◌}
 use Rattle.std.proofs.Common.{zero, Option, Some, None, Result, Ok, Err, length, map, take, drop, get_or}
 use Rattle.std.proofs.Common.{append-nil, append_assoc, refl, sym, ap, ap₂, subst, subst₂, ◌∙◌, inl, inr}
-use Rattle.std.proofs.Common.{arith, zero-add}
+use Rattle.std.proofs.Common.{arith, length-append, zero-add}
 use Rattle.std.specs.Prelude.{IsSome, IsSomeAnd, OnOk, slice_get}
 use Rattle.std.specs.List.{All, Contains, cons_option, filter_map, flat_map, range_with_len}
 use Rattle.std.specs.Option.{option_and_then, option_map}
@@ -253,6 +253,10 @@ module _ (base : Base) where
           ≡ givens base ++ fact.NegGoal ∷ []
       go None h = absurd (cc)
       go (Some f) h = refl
+
+  pub some_first : IsSome base.negated → 0 < length (first_facts base)
+  some_first some =
+      omega (arith, ap length (with_goal some), length-append (givens base) (fact.NegGoal ∷ []))
 
   pub goal_next : (n : ℕ) → IsSome base.negated → n ≡ length base.background
       → slice_get (first_facts base) n ≡ Some fact.NegGoal
