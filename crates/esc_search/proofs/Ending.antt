@@ -1,0 +1,137 @@
+-- What holds of a search that is left open, or whose root is refuted.
+use Rattle.std.proofs.Common.{◌≡◌, ℕ, ◌≤◌, IsTrue, List, [], ◌∷◌, ◌++◌, Option, Some, None, length}
+use Rattle.std.proofs.Common.{map, true, refl, sym, ap, subst, ◌∙◌, arith}
+use Rattle.std.specs.Prelude.{not, if◌then◌else◌}
+use Rattle.std.specs.List.{All, cons_option, filter, fold, range_with_len}
+use Rattle.std.specs.Option.{option_map, option_map_or}
+use Rattle.std.proofs.lemmas.List.Elements.{All-append, All-cons, All-head, All-map, All-nil}
+use Rattle.std.proofs.lemmas.List.Elements.{All-push, All-tail}
+use Rattle.esc_term.specs.declared.formula.Formula.{Formula}
+use Rattle.esc_cover.specs.Arithmetic.{play_of}
+use Rattle.esc_cover.specs.Counterexample.{AllCovered, AreLiteralsOf}
+use Rattle.esc_fact.specs.Depth.{Deep, IsWithinLimits, deep, with_depth}
+use Rattle.esc_fact.specs.Fact.{IsFact, formula_of, formulas_of}
+use Rattle.esc_fact.specs.Legal.{IsLegal, first_facts, is_first, made_facts}
+use Rattle.esc_fact.specs.declared.base.Base.{Base}
+use Rattle.esc_fact.specs.declared.fact.Fact.{Fact}
+use Rattle.esc_fact.specs.declared.fact.Fact.TheVariants as fact
+use Rattle.esc_context.specs.Left.{shared_of}
+use Rattle.esc_sharing.specs.Shared.{play_in}
+use Rattle.esc_sharing.specs.Unquantified.{IsSamePlay}
+use Rattle.esc_live.specs.View.{classes_on, literals_on, live_on}
+use Rattle.esc_outcome.specs.Grown.{IsDoneIn}
+use Rattle.esc_outcome.proofs.Decided.{root_closes}
+use Rattle.esc_outcome.proofs.FirstFacts.{first_legal}
+use Rattle.esc_refine.specs.Refining.{IsDone}
+use Rattle.esc_search.specs.Proving.{IsLeftOpen, IsRefutedLog, branch_of, live_facts}
+use Rattle.esc_search.specs.SearchInside.{IsOpenHere, IsSearch}
+use Rattle.esc_search.specs.declared.open_split.OpenSplit.{OpenSplit}
+use Rattle.esc_search.specs.declared.search.Search.{Search}
+use Rattle.esc_search.proofs.Reaching.{live_all, live_formulas_all}
+use Rattle.esc_search.proofs.Stopping.{follow_open}
+
+-- ---- first facts are within all limits
+
+all_first : (base : Base) → All (λ f. IsTrue (is_first f)) (first_facts base)
+all_first base =
+    All-append IsFirst (map fact.Given places)
+    (cons_option (option_map (λ f. fact.NegGoal) base.negated) [])
+    (All-map IsFirst fact.Given places (λ k d below. refl)) (last base.negated)
+  where
+    IsFirst : Fact → Type 0
+    IsFirst f = IsTrue (is_first f)
+
+    places : List ℕ
+    places = range_with_len 0 (length base.background)
+
+    last : (o : Option Formula)
+        → All (λ f. IsTrue (is_first f)) (cons_option (option_map (λ f. fact.NegGoal) o) [])
+    last None = All-nil (λ f. IsTrue (is_first f))
+    last (Some f) = All-cons (λ f. IsTrue (is_first f)) fact.NegGoal [] refl
+        (All-nil (λ f. IsTrue (is_first f)))
+
+none_made : (facts : List Fact) → All (λ f. IsTrue (is_first f)) facts → made_facts facts ≡ []
+none_made [] all = refl
+none_made (f ∷ facts) all =
+    ap (λ b. if not b then f ∷ made_facts facts else made_facts facts)
+    (All-head (λ g. IsTrue (is_first g)) f facts all)
+    ∙ none_made facts (All-tail (λ g. IsTrue (is_first g)) f facts all)
+
+module _ (base : Base) (depth : ℕ) where
+  abbrev IsShallow : Deep → Type 0
+  IsShallow d = d.depth ≤ depth
+
+  one_more : (before : List Deep) (f : Fact) → IsTrue (is_first f) → All IsShallow before
+      → All IsShallow (with_depth base before f)
+  one_more before (fact.Given k) first all = go (formula_of base (fact.Given k))
+    where
+      go : (o : Option Formula) → All IsShallow (option_map_or
+          (λ f. before ++ record { formula = f; depth = 0 } ∷ []) o before)
+      go None = all
+      go (Some f) = All-push IsShallow before (record { formula = f; depth = 0 }) all (omega arith)
+  one_more before fact.NegGoal first all = go (formula_of base fact.NegGoal)
+    where
+      go : (o : Option Formula) → All IsShallow (option_map_or
+          (λ f. before ++ record { formula = f; depth = 0 } ∷ []) o before)
+      go None = all
+      go (Some f) = All-push IsShallow before (record { formula = f; depth = 0 }) all (omega arith)
+  one_more before (fact.Inst number outer terms) first all = absurd (cc)
+  one_more before (fact.Skolem number outer) first all = absurd (cc)
+  one_more before (fact.Map1 m i x) first all = absurd (cc)
+  one_more before (fact.Map2 m i x j) first all = absurd (cc)
+
+  all_shallow : (before : List Deep) (facts : List Fact) → All (λ f. IsTrue (is_first f)) facts
+      → All IsShallow before → All IsShallow (fold (with_depth base) before facts)
+  all_shallow before [] first all = all
+  all_shallow before (f ∷ facts) first all =
+      all_shallow (with_depth base before f) facts
+      (All-tail (λ g. IsTrue (is_first g)) f facts first)
+      (one_more before f (All-head (λ g. IsTrue (is_first g)) f facts first) all)
+
+  first_within : (count : ℕ) → IsWithinLimits base depth count (first_facts base)
+  first_within count = record {
+    legal = first_legal base;
+    shallow = all_shallow [] (first_facts base) (all_first base) (All-nil IsShallow);
+    few = subst (λ (fs : List Fact). length fs ≤ count)
+        (sym (none_made (first_facts base) (all_first base))) (omega arith);
+  }
+
+-- ---- left open
+
+pub left_open : (base : Base) (s : Search) (os : List OpenSplit) → IsSearch base s os
+    → IsOpenHere base s → IsDone s.branch → IsLeftOpen base s
+left_open base s os search open_here done =
+    let facts : live_facts s ≡ first_facts base = live_all base s os search ∙ search.log in
+    let formulas : live_on s.branch ≡ formulas_of base (live_facts s) =
+    live_formulas_all base s os search
+    ∙ (search.formulas ∙ ap (formulas_of base) (sym (live_all base s os search))) in
+    let shared = open_here.branch.shared in
+    record {
+      branch = open_here.branch;
+      done = done;
+      within = subst (IsWithinLimits base s.limits.depth s.limits.facts) (sym facts)
+          (first_within base s.limits.depth s.limits.facts);
+      left = record {
+        closed = search.closed;
+        are_facts = subst (All (IsFact base)) (sym facts) (first_legal base).are_facts;
+        shared = shared.shared;
+        play = subst (λ fs. IsSamePlay (play_in (shared_of s.branch.sharing)) (play_of fs))
+            formulas shared.play;
+        asserted = shared.asserted;
+        one_sign = shared.consistent.one_sign;
+        covered = subst (AllCovered (literals_on s.branch) (classes_on s.branch)) formulas
+            done.facts;
+        are_literals = subst (λ fs. AreLiteralsOf fs (literals_on s.branch)) formulas
+            shared.literals_are;
+      };
+      follow = follow_open base s os search open_here;
+    }
+
+-- ---- refuted
+
+pub refuted_log : (base : Base) (s : Search) → IsSearch base s []
+    → IsDoneIn base (branch_of s) s.under → IsRefutedLog base s
+refuted_log base s search refuted = record {
+  legal = subst (IsLegal base) (sym search.log) (first_legal base);
+  refuted = root_closes (formulas_of base s.log) s.splits (search.climbs refuted);
+}

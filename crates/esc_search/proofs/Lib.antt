@@ -1,0 +1,12 @@
+mod Asserting
+mod Climbing
+mod Ending
+mod Following
+mod FrontFacts
+mod GoingBack
+mod LiveFacts
+mod Reaching
+mod Splitting
+mod Starting
+mod Stopping
+mod Waiting

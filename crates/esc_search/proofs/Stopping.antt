@@ -1,0 +1,109 @@
+-- What is told of a search that stops.
+use Rattle.std.proofs.Common.{◌≡◌, ℕ, ◌≤◌, IsTrue, List, [], ◌∷◌, ◌++◌, Some, length, refl, sym, ap}
+use Rattle.std.proofs.Common.{subst, subst₂, ◌∙◌, inl, inr, arith}
+use Rattle.std.specs.Prelude.{slice_get}
+use Rattle.std.specs.List.{All, Contains, filter_map}
+use Rattle.std.proofs.lemmas.List.Elements.{All-append, All-contains, All-weaker}
+use Rattle.esc_term.specs.declared.formula.Formula.{Formula}
+use Rattle.esc_term.specs.declared.formula.Item.{Item}
+use Rattle.esc_term.specs.Interpretation.{truth}
+use Rattle.esc_term.specs.Model.{Model, read_in}
+use Rattle.esc_term.specs.Refuted.{AllTrue}
+use Rattle.esc_cover.specs.Laws.{HoldsIn}
+use Rattle.esc_clause.specs.Refinement.{is_same_place, next_split}
+use Rattle.esc_clause.specs.declared.decision.Decision.{Decision}
+use Rattle.esc_clause.specs.declared.occurrence.Occurrence.{Occurrence}
+use Rattle.esc_fact.specs.Fact.{formulas_of}
+use Rattle.esc_fact.specs.Legal.{IsLegal}
+use Rattle.esc_fact.specs.declared.base.Base.{Base}
+use Rattle.esc_simplex.specs.declared.stop.Stop.{Stop}
+use Rattle.esc_live.specs.View.{judge_on, literals_on, logged}
+use Rattle.esc_outcome.specs.Causes.{AllFollow, IsOutOfSplits, IsStuck, formulas_on, is_endless}
+use Rattle.esc_outcome.specs.Causes.{is_overflow}
+use Rattle.esc_outcome.specs.Jam.{IsJam}
+use Rattle.esc_outcome.specs.JamLaws.{stuck_with}
+use Rattle.esc_outcome.specs.Tree.{IsOccurrence, path_of}
+use Rattle.esc_outcome.specs.declared.branch.Branch.{Branch}
+use Rattle.esc_outcome.specs.declared.branch.Cause.TheVariants as cause
+use Rattle.esc_outcome.specs.declared.stuck.Stuck.{Stuck}
+use Rattle.esc_outcome.proofs.FirstFacts.{first_legal}
+use Rattle.esc_outcome.proofs.Following.{told_follows}
+use Rattle.esc_refine.specs.Refining.{IsQuiet, SplitsAt}
+use Rattle.esc_search.specs.Proving.{IsStopped, LiteralsFollow, branch_of, decided_on, live_facts}
+use Rattle.esc_search.specs.SearchInside.{IsHalted, IsOpenHere, IsSearch, said_on}
+use Rattle.esc_search.specs.declared.open_split.OpenSplit.{OpenSplit}
+use Rattle.esc_search.specs.declared.search.Search.{Search}
+use Rattle.esc_search.proofs.Following.{all_follow}
+use Rattle.esc_search.proofs.LiveFacts.{live_true}
+use Rattle.esc_search.proofs.Reaching.{said_all}
+use Rattle.esc_search.proofs.Splitting.{split_new, split_there}
+
+-- ---- the arithmetic
+
+module _ (base : Base) (s : Search) (why : Stop) (h : IsHalted base s why) where
+  abbrev literals : List Item
+  literals = literals_on s.branch
+
+  abbrev pub kept_stuck : Stuck
+  kept_stuck = stuck_with s.branch.sharing why literals
+
+  follow_here : LiteralsFollow base s
+  follow_here = all_follow (said_on base s) literals h.follow
+
+  follow_on : AllFollow (formulas_on base (branch_of s)) literals
+  follow_on = all_follow (formulas_on base (branch_of s)) literals (λ M all.
+      h.follow M (live_true base s (read_in M) (decided_on base s) all))
+
+  pub is_stuck : IsStuck base s.limits (branch_of s) kept_stuck
+  is_stuck = record {
+    grown = h.grown;
+    jam = subst₂ (λ fs n. IsJam fs n kept_stuck) h.formulas h.limit h.stopped.stopped.jam;
+    literals = follow_on;
+    told = told_follows (formulas_on base (branch_of s)) literals kept_stuck.told follow_on
+        h.stopped.told;
+  }
+
+  pub overflow_told : (branch : Branch) (stuck : Stuck) → branch ≡ branch_of s
+      → stuck ≡ kept_stuck → IsTrue (is_overflow why)
+      → IsStopped base s (cause.Overflow branch stuck)
+  overflow_told branch stuck b k overflow = subst₂ (λ x y. IsStopped base s (cause.Overflow x y))
+      (sym b) (sym k) (record {
+        cause_is = (is_stuck, overflow);
+        tells = (refl, refl);
+        follow = follow_here;
+      })
+
+  pub pivots_told : (branch : Branch) (stuck : Stuck) → branch ≡ branch_of s
+      → stuck ≡ kept_stuck → IsTrue (is_endless why)
+      → IsStopped base s (cause.Pivots branch stuck)
+  pivots_told branch stuck b k endless = subst₂ (λ x y. IsStopped base s (cause.Pivots x y))
+      (sym b) (sym k) (record {
+        cause_is = (is_stuck, endless);
+        tells = (refl, refl);
+        follow = follow_here;
+      })
+
+-- ---- splits
+
+module _ (base : Base) (s : Search) (os : List OpenSplit) (search : IsSearch base s os)
+    (open_here : IsOpenHere base s) where
+  pub follow_open : LiteralsFollow base s
+  follow_open = all_follow (said_on base s) (literals_on s.branch) (λ M all.
+      (open_here.sound M (subst (AllTrue (read_in M)) (said_all base s os search) all)).literals)
+
+  pub splits_told : (branch : Branch) (at : Occurrence) → branch ≡ branch_of s
+      → IsQuiet s.branch → next_split (judge_on s.branch) s.branch.clauses ≡ Some at
+      → SplitsAt s.branch (Some at) → s.limits.splits ≤ length s.splits
+      → IsStopped base s (cause.Splits branch at)
+  splits_told branch at b quiet next splits_at spent =
+      subst (λ x. IsStopped base s (cause.Splits x at)) (sym b) (record {
+        cause_is = record {
+          grown = search.grown;
+          legal = subst (IsLegal base) (sym search.log) (first_legal base);
+          spent = omega (arith, spent, search.few);
+          next_there = split_there base s os search open_here at splits_at;
+          next_new = split_new base s os search open_here at splits_at;
+        };
+        tells = (refl, open_here.branch, quiet, next);
+        follow = follow_open;
+      })

@@ -1,0 +1,24 @@
+use Rattle.std.proofs.Common.{subst, sym}
+use Rattle.esc_egraph.specs.declared.state.State.TheVariants as state
+use Rattle.esc_search.specs.SearchInside.{IsAt}
+use Rattle.esc_search.proofs.Reaching.{kept_both, kept_here}
+use Rattle.esc_search.proofs.search.Search.explore.Goals as goal
+
+pub steps-init : goal.steps-init
+steps-init c = record {
+  here = subst (λ os. IsAt c.args.base.now c.args.self.now os state.Open)
+      (sym c.new-waiting.ensures) c.requires.here;
+  kept = kept_here c.args.base.now c.args.self.now _ c.requires.here.0;
+}
+
+pub steps-preserved : goal.steps-preserved
+steps-preserved c = record {
+  here = c.in-Goes.ensures.steps;
+  kept = kept_both c.args.base.now c.args.self.now c.steps.self c.step.new.self
+      c.steps.invariant.kept c.step.ensures.kept;
+}
+
+pub returns-in-Ends-clause-kept : goal.returns-in-Ends-clause-kept
+returns-in-Ends-clause-kept c =
+    kept_both c.args.base.now c.args.self.now c.steps.self c.step.new.self
+    c.steps.invariant.kept c.step.ensures.kept

@@ -1,0 +1,35 @@
+use Rattle.std.proofs.Common.{ap, length, subst, ◌∙◌}
+use Rattle.std.proofs.lemmas.List.{length_push}
+use Rattle.esc_egraph.specs.declared.state.State.TheVariants as state
+use Rattle.esc_search.specs.SearchInside.{IsAt, IsSearch, steps_left}
+use Rattle.esc_search.proofs.Ending.{refuted_log}
+use Rattle.esc_search.proofs.Reaching.{kept_both, kept_here, nearer_back}
+use Rattle.esc_search.proofs.search.Search.go_back.Goals as goal
+
+pub returns-in-None-clause-steps : goal.returns-in-None-clause-steps
+returns-in-None-clause-steps c =
+    refuted_log c.args.base.now c.args.self.now
+    (subst (IsSearch c.args.base.now c.args.self.now) c.in-None.ensures.0 c.requires.here.0)
+    c.requires.here.1
+
+pub returns-in-None-clause-kept : goal.returns-in-None-clause-kept
+returns-in-None-clause-kept c =
+    kept_here c.args.base.now c.args.self.now c.args.waiting.now c.requires.here.0
+
+pub other_side-requires : goal.other_side-requires
+other_side-requires c = record {
+  here = subst (λ os. IsAt c.args.base.now c.args.self.now os state.Closed) c.in-Some.ensures
+      c.requires.here;
+}
+
+pub returns-in-Some-clause-nearer : goal.returns-in-Some-clause-nearer
+returns-in-Some-clause-nearer c =
+    c.take_side.ensures.nearer (steps_left c.args.self.now c.args.waiting.now)
+    (nearer_back c.args.base.now c.args.self.now c.other_side.new.self c.args.waiting.now
+    c.pop.new.self c.other_side.ensures.kept c.other_side.ensures.splits
+    (ap length c.in-Some.ensures ∙ length_push c.pop.new.self c.in-Some.last))
+
+pub returns-in-Some-clause-kept : goal.returns-in-Some-clause-kept
+returns-in-Some-clause-kept c =
+    kept_both c.args.base.now c.args.self.now c.other_side.new.self c.take_side.new.self
+    c.other_side.ensures.kept c.take_side.ensures.kept

@@ -1,0 +1,99 @@
+-- What a search comes to.
+use Rattle.std.specs.Prelude.{◌≡◌, ◌<◌, ◌++◌, List, [], Some, None, length, map, slice_get, take}
+use Rattle.std.specs.List.{filter_map, range_with_len}
+use Rattle.std.specs.Option.{IsSome}
+use Rattle.esc_term.specs.declared.formula.Formula.{Formula}
+use Rattle.esc_term.specs.Model.{Model, read_in}
+use Rattle.esc_term.specs.Refuted.{AllTrue, Refuted}
+use Rattle.esc_clause.specs.Refinement.{next_split}
+use Rattle.esc_context.specs.Left.{IsLeft}
+use Rattle.esc_fact.specs.Depth.{IsWithinLimits}
+use Rattle.esc_fact.specs.Fact.{formulas_of}
+use Rattle.esc_fact.specs.Legal.{IsClosedBase, IsLegal, first_facts}
+use Rattle.esc_fact.specs.declared.base.Base.{Base}
+use Rattle.esc_fact.specs.declared.fact.Fact.{Fact}
+use Rattle.esc_live.specs.Promises.{IsBranch, IsGiven, IsSoundIn}
+use Rattle.esc_live.specs.View.{judge_on, literals_on, live_on, logged}
+use Rattle.esc_outcome.specs.Causes.{AllFollow, IsCause}
+use Rattle.esc_outcome.specs.JamLaws.{stuck_with}
+use Rattle.esc_outcome.specs.Tree.{path_formulas}
+use Rattle.esc_outcome.specs.declared.branch.Branch.{Branch}
+use Rattle.esc_outcome.specs.declared.branch.Cause.{Cause}
+use Rattle.esc_outcome.specs.declared.branch.Cause.TheVariants as cause
+use Rattle.esc_outcome.specs.declared.limits.Limits.{Limits}
+use Rattle.esc_outcome.specs.declared.stuck.Stuck.{Stuck}
+use Rattle.esc_refine.specs.Refining.{IsDone, IsQuiet}
+use Rattle.esc_search.specs.declared.outcome.Outcome.{Outcome}
+use Rattle.esc_search.specs.declared.outcome.Outcome.TheVariants as outcome
+use Rattle.esc_search.specs.declared.search.Search.{Search}
+
+-- the facts that are live on the branch at hand, in the order in which they became live
+abbrev pub live_facts : Search → List Fact
+live_facts s = filter_map (slice_get s.log) s.branch.book.live
+
+-- the branch at hand
+abbrev pub branch_of : Search → Branch
+branch_of s = record { log = s.log; sides = s.sides; splits = s.splits; under = s.under }
+
+-- what was decided on the way to the branch at hand
+abbrev pub decided_on : Base → Search → List Formula
+decided_on base s = path_formulas (formulas_of base s.log) s.splits s.under
+
+-- ---- before
+
+-- a front of the background is asserted, and nothing else
+pub record IsReady (base : Base) (s : Search) : Type 0 where
+  pub log : s.log ≡ take (length s.log) (first_facts base)
+  pub without_goal : length s.log < length (first_facts base)
+  pub formulas : logged s.branch ≡ formulas_of base s.log
+  -- each fact of it is live, and was added at the root
+  pub live : s.branch.book.live ≡ range_with_len 0 (length s.log)
+  pub sides : s.sides ≡ map (λ fact. None) s.log
+  pub splits : s.splits ≡ []
+  pub under : s.under ≡ None
+  pub branch : IsBranch s.branch
+  pub given : IsGiven s.branch
+  pub sound : (M : Model) → AllTrue (read_in M) (live_on s.branch) → IsSoundIn M s.branch
+  pub limit : s.branch.sharing.theory.limit ≡ s.limits.pivots
+
+-- ---- after
+
+-- the log is legal, and its formulas are refuted
+pub record IsRefutedLog (base : Base) (s : Search) : Type 0 where
+  pub legal : IsLegal base s.log
+  pub refuted : Refuted (formulas_of base s.log)
+
+-- each literal follows from the live facts with what was decided on the way
+abbrev pub LiteralsFollow : Base → Search → Type 0
+LiteralsFollow base s =
+    AllFollow (formulas_of base (live_facts s) ++ decided_on base s) (literals_on s.branch)
+
+-- the branch at hand is left open: its live facts are within limits, and each is covered
+pub record IsLeftOpen (base : Base) (s : Search) : Type 0 where
+  pub branch : IsBranch s.branch
+  pub done : IsDone s.branch
+  pub within : IsWithinLimits base s.limits.depth s.limits.facts (live_facts s)
+  pub left : IsLeft base s.branch.sharing (live_facts s) (literals_on s.branch)
+  pub follow : LiteralsFollow base s
+
+-- the cause tells of the branch at hand: how its arithmetic is stuck, or what is to be split next
+-- where nothing is left to refine
+abbrev pub IsStuckSo : Search → Stuck → Type 0
+IsStuckSo s stuck = stuck ≡ stuck_with s.branch.sharing stuck.jam (literals_on s.branch)
+
+abbrev pub TellsOf : Search → Cause → Type 0
+TellsOf s (cause.Overflow branch stuck) = (branch ≡ branch_of s) × IsStuckSo s stuck
+TellsOf s (cause.Pivots branch stuck) = (branch ≡ branch_of s) × IsStuckSo s stuck
+TellsOf s (cause.Splits branch next) = (branch ≡ branch_of s) × IsBranch s.branch
+    × IsQuiet s.branch × (next_split (judge_on s.branch) s.branch.clauses ≡ Some next)
+
+pub record IsStopped (base : Base) (s : Search) (cause : Cause) : Type 0 where
+  pub cause_is : IsCause base s.limits cause
+  pub tells : TellsOf s cause
+  pub follow : LiteralsFollow base s
+
+abbrev pub ComesTo : Base → Search → Outcome → Type 0
+ComesTo base s outcome.Closed = IsRefutedLog base s
+ComesTo base s outcome.Open = IsLeftOpen base s
+ComesTo base s (outcome.Stopped cause) = IsStopped base s cause
+ComesTo base s outcome.Memory = Unit {0}

@@ -1,0 +1,195 @@
+-- How a search stands between any two steps.
+use Rattle.std.specs.Prelude.{◌≡◌, ◌≢◌, ◌<◌, ◌≤◌, ◌+◌, ◌-◌, ◌*◌, ℕ, Bool, true, false, List, []}
+use Rattle.std.specs.Prelude.{◌∷◌, ◌++◌, Option, Some, None, Result, Ok, Err, drop, length, map}
+use Rattle.std.specs.Prelude.{slice_get, take}
+use Rattle.std.specs.List.{All, AllPairs, Contains, range_with_len}
+use Rattle.esc_term.specs.declared.formula.Formula.{Formula}
+use Rattle.esc_term.specs.Model.{Model, read_in}
+use Rattle.esc_term.specs.Refuted.{AllTrue, Refuted}
+use Rattle.esc_cover.specs.Laws.{HoldsIn}
+use Rattle.esc_clause.specs.declared.decision.Decision.{Decision}
+use Rattle.esc_clause.specs.declared.occurrence.Occurrence.{Occurrence}
+use Rattle.esc_trail.specs.Undo.{CanRewind, rewind}
+use Rattle.esc_egraph.specs.declared.state.State.{State}
+use Rattle.esc_egraph.specs.declared.state.State.TheVariants as state
+use Rattle.esc_simplex.specs.declared.stop.Stop.{Stop}
+use Rattle.esc_simplex.specs.declared.stop.Stop.TheVariants as stop
+use Rattle.esc_fact.specs.Fact.{formulas_of}
+use Rattle.esc_fact.specs.Legal.{IsClosedBase, first_facts}
+use Rattle.esc_fact.specs.declared.base.Base.{Base}
+use Rattle.esc_book.specs.Book.{IsLiveOccurrence}
+use Rattle.esc_live.specs.Calls.{HoldsWithDecision, IsStoppedAt}
+use Rattle.esc_live.specs.LiveUndo.{AreSame, live_undo}
+use Rattle.esc_live.specs.Promises.{IsBranch, IsGiven, IsSoundIn, IsUndecided}
+use Rattle.esc_live.specs.View.{literals_on, live_on, logged}
+use Rattle.esc_live.specs.declared.branch.LiveBranch.{LiveBranch}
+use Rattle.esc_live.specs.declared.record.LiveRec.{LiveRec}
+use Rattle.esc_outcome.specs.Grown.{Grown, IsDoneIn}
+use Rattle.esc_outcome.specs.Tree.{IsFree, Side, formulas_at, path_of}
+use Rattle.esc_outcome.specs.declared.branch.Split.{Split}
+use Rattle.esc_search.specs.Proving.{ComesTo, branch_of, decided_on, live_facts}
+use Rattle.esc_search.specs.declared.open_split.OpenSplit.{OpenSplit}
+use Rattle.esc_search.specs.declared.search.Search.{Search}
+use Rattle.esc_search.specs.declared.step.Step.{Step}
+use Rattle.esc_search.specs.declared.step.Step.TheVariants as step
+
+-- ---- what holds always
+
+-- the formulas of the branch are those of the log, its arithmetic is given by them, and the limits
+-- are as they were
+pub record IsKept (base : Base) (old new : Search) : Type 0 where
+  pub given : IsGiven new.branch
+  pub formulas : logged new.branch ≡ formulas_of base new.log
+  pub limits : new.limits ≡ old.limits
+
+-- the formulas of the live facts with what was decided on the way
+abbrev pub said_on : Base → Search → List Formula
+said_on base s = formulas_of base (live_facts s) ++ decided_on base s
+
+-- ---- where the arithmetic stopped
+
+pub record IsHalted (base : Base) (s : Search) (why : Stop) : Type 0 where
+  pub grown : Grown base s.limits.depth (branch_of s)
+  pub formulas : logged s.branch ≡ formulas_of base s.log
+  pub limit : s.branch.sharing.theory.limit ≡ s.limits.pivots
+  pub stopped : IsStoppedAt s.branch why
+  pub follow : (M : Model) → AllTrue (read_in M) (said_on base s)
+      → All (HoldsIn M) (literals_on s.branch)
+
+abbrev pub HaltsUnlessMemory : Base → Search → Stop → Type 0
+HaltsUnlessMemory base s stop.Memory = Unit {0}
+HaltsUnlessMemory base s why = IsHalted base s why
+
+-- ---- at the beginning
+
+-- a front of the facts that name a formula of the base is logged, and a front of these is live
+pub record IsBegun (base : Base) (s : Search) : Type 0 where
+  pub log : s.log ≡ take (length s.log) (first_facts base)
+  pub formulas : logged s.branch ≡ formulas_of base s.log
+  pub live : s.branch.book.live ≡ range_with_len 0 (length s.branch.book.live)
+  pub few : length s.branch.book.live ≤ length s.log
+  pub sides : s.sides ≡ map (λ fact. None) s.log
+  pub splits : s.splits ≡ []
+  pub under : s.under ≡ None
+  pub branch : IsBranch s.branch
+  pub given : IsGiven s.branch
+  pub sound : (M : Model) → AllTrue (read_in M) (live_on s.branch) → IsSoundIn M s.branch
+  pub limit : s.branch.sharing.theory.limit ≡ s.limits.pivots
+
+-- all of them are logged
+abbrev pub IsLogged : Base → Search → Type 0
+IsLogged base s = IsBegun base s × (s.log ≡ first_facts base)
+
+-- at Open facts are asserted; at Closed the log is refuted
+abbrev pub Begins : Base → Search → Result State Stop → Type 0
+Begins base s (Ok state.Open) = IsLogged base s
+Begins base s (Ok state.Closed) = (s.log ≡ first_facts base) × Refuted (formulas_of base s.log)
+Begins base s (Err why) = HaltsUnlessMemory base s why
+
+-- ---- open splits
+
+-- what was decided on the way to the side is among the decisions
+abbrev pub WasDecided : List Split → Side → List Decision → Type 0
+WasDecided splits side decisions = All (Contains decisions) (path_of splits side)
+
+-- the formulas of the log with what was decided on the way to the side
+abbrev pub formulas_under : Base → Search → Side → List Formula
+formulas_under base s side = formulas_at (formulas_of base s.log) s.splits side
+
+-- each fact of the log is live
+abbrev pub AllAreLive : LiveBranch → Type 0
+AllAreLive v = v.book.live ≡ range_with_len 0 (length (logged v))
+
+-- how the branch was where it was split
+pub record WasSplit (fs : List Formula) (splits : List Split) (split : Split) (w : LiveBranch) :
+    Type 0 where
+  pub branch : IsBranch w
+  pub formulas : logged w ≡ fs
+  pub live : AllAreLive w
+  pub sound : (M : Model) → AllTrue (read_in M) (formulas_at fs splits split.under)
+      → IsSoundIn M w
+  pub decided : WasDecided splits split.under w.clauses.decisions
+  pub occurs : IsLiveOccurrence w.book split.at
+  pub undecided : IsUndecided w split.at
+
+-- the branch can go back to where it was split
+pub record IsWaiting (base : Base) (s : Search) (o : OpenSplit) : Type 0 where
+  pub there : slice_get s.splits o.number ≡ Some o.split
+  pub free : IsFree s.splits (Some (o.number, false))
+  pub elsewhere : s.under ≢ Some (o.number, false)
+  pub within : o.mark ≤ length s.trail.records
+  pub undoable : CanRewind live_undo s.branch (drop o.mark s.trail.records)
+  pub before : LiveBranch
+  pub same : AreSame (rewind live_undo s.branch (drop o.mark s.trail.records)) before
+  pub split : WasSplit (formulas_of base s.log) s.splits o.split before
+
+pub record IsOlder (a b : OpenSplit) : Type 0 where
+  pub mark : a.mark ≤ b.mark
+  pub number : a.number < b.number
+
+-- where the branch is done, so is the first side of the newest open split, or the root; and where
+-- an open split stands is done only with the first side of the split before it, or the root
+abbrev pub Climbs : (Side → Type 0) → Side → List OpenSplit → Side → Type 0
+Climbs done target [] under = done under → done target
+Climbs done target (o ∷ os) under =
+    (done o.split.under → done target) × Climbs done (Some (o.number, true)) os under
+
+-- ---- the whole
+
+pub record IsSearch (base : Base) (s : Search) (waiting : List OpenSplit) : Type 0 where
+  pub closed : IsClosedBase base
+  pub log : s.log ≡ first_facts base
+  pub formulas : logged s.branch ≡ formulas_of base s.log
+  pub live : AllAreLive s.branch
+  pub grown : Grown base s.limits.depth (branch_of s)
+  pub given : IsGiven s.branch
+  pub limit : s.branch.sharing.theory.limit ≡ s.limits.pivots
+  pub few : length s.splits ≤ s.limits.splits
+  pub free : IsFree s.splits s.under
+  pub waits : All (IsWaiting base s) waiting
+  pub older : AllPairs IsOlder waiting
+  pub climbs : Climbs (IsDoneIn base (branch_of s)) None waiting s.under
+
+-- the branch at hand is open
+pub record IsOpenHere (base : Base) (s : Search) : Type 0 where
+  pub branch : IsBranch s.branch
+  pub sound : (M : Model) → AllTrue (read_in M) (formulas_under base s s.under)
+      → IsSoundIn M s.branch
+  pub decided : WasDecided s.splits s.under s.branch.clauses.decisions
+
+-- the branch at hand is open, or refuted
+abbrev pub IsHere : Base → Search → State → Type 0
+IsHere base s state.Open = IsOpenHere base s
+IsHere base s state.Closed = IsDoneIn base (branch_of s) s.under
+
+abbrev pub IsAt : Base → Search → List OpenSplit → State → Type 0
+IsAt base s waiting state = IsSearch base s waiting × IsHere base s state
+
+abbrev pub Reaches : Base → Search → List OpenSplit → Result State Stop → Type 0
+Reaches base s waiting (Ok state) = IsAt base s waiting state
+Reaches base s waiting (Err why) = HaltsUnlessMemory base s why
+
+-- the occurrence is to be decided so where the search is
+pub record IsToDecide (base : Base) (s : Search) (at : Occurrence) (holds : Bool) : Type 0 where
+  pub branch : IsBranch s.branch
+  pub occurs : IsLiveOccurrence s.branch.book at
+  pub undecided : IsUndecided s.branch at
+  pub so : (M : Model) → AllTrue (read_in M) (formulas_under base s s.under)
+      → HoldsWithDecision s.branch (record { at = at; holds = holds }) M
+  pub decided : WasDecided s.splits s.under
+      (s.branch.clauses.decisions ++ record { at = at; holds = holds } ∷ [])
+
+-- ---- steps
+
+-- twice the splits that may still come, and the open ones
+abbrev pub steps_left : Search → List OpenSplit → ℕ
+steps_left s waiting = 2 * (s.limits.splits - length s.splits) + length waiting
+
+abbrev pub StepsTo : Base → Search → List OpenSplit → Step → Type 0
+StepsTo base s waiting (step.Goes state) = IsAt base s waiting state
+StepsTo base s waiting (step.Ends outcome) = ComesTo base s outcome
+
+-- where the search goes on, fewer steps are left than this
+abbrev pub IsNearer : ℕ → ℕ → Step → Type 0
+IsNearer before after (step.Goes state) = after < before
+IsNearer before after (step.Ends outcome) = Unit {0}

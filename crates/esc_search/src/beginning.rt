@@ -1,0 +1,121 @@
+//! The facts that name a formula of the base become live, at the root.
+
+ghost use Rattle.std.specs.Prelude.{◌≡◌, ◌<◌, ◌≤◌, ◌+◌, ◌∷◌, ◌++◌, [], length, slice_get, Ok, OnOk};
+ghost use Rattle.std.specs.Prelude.{Some};
+ghost use Rattle.std.specs.Option.{IsSome};
+ghost use Rattle.esc_egraph.specs.declared.state.State.TheVariants as state;
+ghost use Rattle.esc_fact.specs.Legal.{IsClosedBase, first_facts};
+ghost use Rattle.esc_search.specs.Proving.{IsReady};
+ghost use Rattle.esc_search.specs.SearchInside.{Begins, IsBegun, IsKept, IsLogged};
+
+use crate::search::Search;
+use esc_egraph::State;
+use esc_fact::{Base, Fact, fact_laws, formula_of};
+use esc_simplex::Stop;
+use std::alloc::AllocError;
+
+impl Search {
+    /// How many facts are logged.
+    fn count(&self) -> usize
+        ensures { result ≡ length self.now.log }
+    {
+        self.log.list().len()
+    }
+
+    /// How many facts are live.
+    fn live_count(&self) -> usize
+        ensures { result ≡ length self.now.branch.book.live }
+    {
+        self.branch.book.live().len()
+    }
+
+    /// Logs the next fact that names a formula of the base. It fails only where memory is wanting.
+    fn log_first(&mut self, base: &Base, fact: Fact) -> Result<(), AllocError>
+        requires closed { IsClosedBase base.now }
+        requires begun { IsBegun base.now self.old }
+        requires next { slice_get (first_facts base.now) (length self.old.log) ≡ Some fact }
+        ensures begun { OnOk result (IsBegun base.now self.new) }
+        ensures log { OnOk result (self.new.log ≡ self.old.log ++ fact ∷ []) }
+        ensures kept { IsKept base.now self.old self.new }
+    {
+        fact_laws();
+        let len = self.count();
+        let formula = formula_of(self.alloc, base, &fact)?;
+        self.sides.push(None)?;
+        let added = self.log.add(fact)?;
+        let _ = added;
+        match self.branch.log(formula) {
+            Ok(()) => Ok(()),
+            Err(error) => {
+                self.log.cut(len);
+                Err(error)
+            }
+        }
+    }
+
+    /// Logs the facts that name a formula of the base. It fails only where memory is wanting.
+    fn log_all(&mut self, base: &Base) -> Result<(), AllocError>
+        requires closed { IsClosedBase base.now }
+        requires goal { IsSome base.now.negated }
+        requires begun { IsBegun base.now self.old }
+        requires without_goal { length self.old.log < length (first_facts base.now) }
+        ensures logged { OnOk result (IsLogged base.now self.new) }
+        ensures kept { IsKept base.now self.old self.new }
+    {
+        'background: while self.count() < base.background.len() {
+            let place = self.count();
+            self.log_first(base, Fact::Given(place as u64))?;
+        }
+        self.log_first(base, Fact::NegGoal)
+    }
+
+    /// Asserts the next fact of the log, which stands at this place.
+    fn assert_next(&mut self, base: &Base, place: usize) -> Result<State, Stop>
+        requires logged { IsLogged base.now self.old }
+        requires place { place ≡ length self.old.branch.book.live }
+        requires more { length self.old.branch.book.live < length self.old.log }
+        ensures begins { Begins base.now self.new result }
+        ensures live { result ≡ Ok state.Open → length self.new.branch.book.live
+            ≡ length self.old.branch.book.live + 1 }
+        ensures log { self.new.log ≡ self.old.log }
+        ensures kept { IsKept base.now self.old self.new }
+    {
+        let _base = base;
+        self.branch.assert(place, &mut self.trail)
+    }
+
+    /// Asserts the facts of the log.
+    fn assert_all(&mut self, base: &Base) -> Result<State, Stop>
+        requires logged { IsLogged base.now self.old }
+        ensures begins { Begins base.now self.new result }
+        ensures live { result ≡ Ok state.Open → length self.new.log
+            ≤ length self.new.branch.book.live }
+        ensures kept { IsKept base.now self.old self.new }
+    {
+        'facts: while self.live_count() < self.count() {
+            let place = self.live_count();
+            match self.assert_next(base, place) {
+                Ok(State::Open) => (),
+                Ok(State::Closed) => return Ok(State::Closed),
+                Err(stop) => return Err(stop),
+            }
+        }
+        Ok(State::Open)
+    }
+
+    /// Logs and asserts the facts that name a formula of the base.
+    pub(crate) fn begin(&mut self, base: &Base) -> Result<State, Stop>
+        requires closed { IsClosedBase base.now }
+        requires goal { IsSome base.now.negated }
+        requires ready { IsReady base.now self.old }
+        ensures begins { Begins base.now self.new result }
+        ensures live { result ≡ Ok state.Open → length self.new.log
+            ≤ length self.new.branch.book.live }
+        ensures kept { IsKept base.now self.old self.new }
+    {
+        match self.log_all(base) {
+            Ok(()) => self.assert_all(base),
+            Err(_) => Err(Stop::Memory),
+        }
+    }
+}

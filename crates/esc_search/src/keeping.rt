@@ -1,0 +1,129 @@
+//! What is kept of a search that stops.
+
+ghost use Rattle.std.specs.Prelude.{◌≡◌, ◌≤◌, IfOk, IsTrue, Some, length};
+ghost use Rattle.esc_clause.specs.Refinement.{next_split};
+ghost use Rattle.esc_fact.specs.declared.base.Base.{Base as Bases};
+ghost use Rattle.esc_live.specs.View.{judge_on, literals_on};
+ghost use Rattle.esc_outcome.specs.Causes.{is_endless, is_overflow};
+ghost use Rattle.esc_outcome.specs.JamLaws.{stuck_with};
+ghost use Rattle.esc_refine.specs.Refining.{IsQuiet, SplitsAt};
+ghost use Rattle.esc_search.specs.Proving.{ComesTo, IsStopped, branch_of};
+ghost use Rattle.esc_search.specs.declared.search.Search.{Search as Searches};
+ghost use Rattle.esc_search.specs.SearchInside.{HaltsUnlessMemory, IsHalted, IsOpenHere, IsSearch};
+
+use crate::open_split::OpenSplits;
+use crate::outcome::Outcome;
+use crate::search::Search;
+use esc_clause::Occurrence;
+use esc_fact::{Base, Facts};
+use esc_outcome::{Branch, Cause, Stuck, stuck_of};
+use esc_simplex::Stop;
+use esc_term::Copied;
+use sqlite_items::Items;
+use std::alloc::AllocError;
+
+impl Search {
+    /// The facts of the log. It fails only where memory is wanting.
+    pub(crate) fn facts(&self) -> Result<Facts, AllocError>
+        ensures { IfOk result (λ facts. facts ≡ self.now.log) }
+    {
+        let mut facts = Items::new(self.alloc);
+        'facts: for fact in self.log.list() {
+            facts.push(fact.copied(self.alloc)?)?;
+        }
+        Ok(facts)
+    }
+
+    /// The branch at hand. It fails only where memory is wanting.
+    pub(crate) fn kept(&self) -> Result<Branch, AllocError>
+        ensures { IfOk result (λ branch. branch ≡ branch_of self.now) }
+    {
+        let log = self.facts()?;
+        let sides = Items::from_slice(self.alloc, self.sides.as_slice())?;
+        let splits = Items::from_slice(self.alloc, self.splits.as_slice())?;
+        Ok(Branch {
+            log,
+            sides,
+            splits,
+            under: self.under,
+        })
+    }
+
+    /// How the arithmetic is stuck. It fails only where memory is wanting.
+    fn stuck(&self, base: &Base, stop: Stop) -> Result<Stuck, AllocError>
+        requires { IsHalted base.now self.now stop }
+        ensures { IfOk result (λ stuck. stuck
+            ≡ stuck_with self.now.branch.sharing stop (literals_on self.now.branch)) }
+    {
+        let _base = base;
+        let literals = self.branch.items()?;
+        stuck_of(self.alloc, &self.branch.sharing, stop, &literals)
+    }
+
+    /// What is told where a step of the arithmetic does not fit.
+    fn overflowed(&self, base: &Base, stop: Stop) -> Result<Cause, AllocError>
+        requires halted { IsHalted base.now self.now stop }
+        requires overflow { IsTrue (is_overflow stop) }
+        ensures { IfOk result (λ cause. IsStopped base.now self.now cause) }
+    {
+        let branch = self.kept()?;
+        let stuck = self.stuck(base, stop)?;
+        Ok(Cause::Overflow(branch, stuck))
+    }
+
+    /// What is told where a maximising takes too many pivots.
+    fn unended(&self, base: &Base, stop: Stop) -> Result<Cause, AllocError>
+        requires halted { IsHalted base.now self.now stop }
+        requires endless { IsTrue (is_endless stop) }
+        ensures { IfOk result (λ cause. IsStopped base.now self.now cause) }
+    {
+        let branch = self.kept()?;
+        let stuck = self.stuck(base, stop)?;
+        Ok(Cause::Pivots(branch, stuck))
+    }
+
+    /// What is answered where the arithmetic stopped.
+    pub(crate) fn stopped_by(&self, base: &Base, stop: Stop) -> Outcome
+        requires { HaltsUnlessMemory base.now self.now stop }
+        ensures { ComesTo base.now self.now result }
+    {
+        match stop {
+            Stop::Memory => Outcome::Memory,
+            Stop::Pivots(jam) => answered(self.unended(base, Stop::Pivots(jam))),
+            Stop::Spill(jam) => answered(self.overflowed(base, Stop::Spill(jam))),
+            Stop::Form(term) => answered(self.overflowed(base, Stop::Form(term))),
+        }
+    }
+
+    /// What is told where there are as many splits as are allowed, and this would be the next.
+    pub(crate) fn out_of_splits(
+        &self,
+        base: &Base,
+        waiting: &OpenSplits,
+        at: Occurrence,
+    ) -> Result<Cause, AllocError>
+        requires search { IsSearch base.now self.now waiting.now }
+        requires here { IsOpenHere base.now self.now }
+        requires quiet { IsQuiet self.now.branch }
+        requires next { next_split (judge_on self.now.branch) self.now.branch.clauses ≡ Some at }
+        requires splits { SplitsAt self.now.branch (Some at) }
+        requires spent { self.now.limits.splits ≤ length self.now.splits }
+        ensures { IfOk result (λ cause. IsStopped base.now self.now cause) }
+    {
+        let _base = base;
+        let _waiting = waiting;
+        let branch = self.kept()?;
+        Ok(Cause::Splits(branch, at))
+    }
+}
+
+/// The cause, or want of memory.
+pub(crate) fn answered(cause: Result<Cause, AllocError>) -> Outcome
+    ensures { (base : Bases) (s : Searches) → IfOk cause (IsStopped base s)
+        → ComesTo base s result }
+{
+    match cause {
+        Ok(cause) => Outcome::Stopped(cause),
+        Err(_) => Outcome::Memory,
+    }
+}

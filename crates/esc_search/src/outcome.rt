@@ -1,0 +1,15 @@
+//! What a search answers.
+
+use esc_outcome::Cause;
+
+/// What a search came to.
+#[derive(Drop)]
+pub enum Outcome {
+    /// Every branch is refuted.
+    Closed,
+    /// The branch at hand is left open.
+    Open,
+    Stopped(Cause),
+    /// Want of memory.
+    Memory,
+}
