@@ -1,1 +1,1 @@
-pub mod Complete
+pub mod Told

@@ -4,9 +4,11 @@ use Rattle.esc_term.specs.declared.formula.Formula.{Formula}
 use Rattle.esc_form.specs.declared.command.Command.{Command}
 use Rattle.esc_form.specs.declared.command.Kind.{Kind}
 use Rattle.esc_form.specs.declared.command.Kind.TheVariants as kind
-use Rattle.esc_report.specs.Found.{IsInvalid, IsValid}
+use Rattle.esc_outcome.specs.Causes.{IsCause}
+use Rattle.esc_outcome.specs.Found.{IsInvalid, IsValid}
+use Rattle.esc_options.specs.declared.options.Limits.{Limits}
+use Rattle.esc_report.specs.Goals.{base_of}
 use Rattle.esc_report.specs.Supported.{is_supported}
-use Rattle.esc_report.specs.declared.limits.Limits.{Limits}
 use Rattle.esc_report.specs.declared.report.Refusal.TheVariants.{Unsupported}
 use Rattle.esc_report.specs.declared.report.Report.{Report}
 use Rattle.esc_report.specs.declared.report.Report.TheVariants as report
@@ -14,9 +16,12 @@ use Rattle.esc_answers.specs.State.{State, with_goal}
 
 -- the report answers the goal with this number, whose expression begins at the place
 abbrev pub AnswersGoal : Limits → Formula → ℕ → ℕ → Report → Type 0
-AnswersGoal limits f number place (report.Valid goal formulas) =
-    (goal ≡ number) × IsValid f formulas
-AnswersGoal limits f number place (report.Invalid goal found) = (goal ≡ number) × IsInvalid f found
+AnswersGoal limits f number place (report.Valid goal log formulas) =
+    (goal ≡ number) × IsValid (base_of f) log formulas
+AnswersGoal limits f number place (report.Invalid goal found) =
+    (goal ≡ number) × IsInvalid (base_of f) limits found
+AnswersGoal limits f number place (report.Unknown goal cause) =
+    (goal ≡ number) × IsCause (base_of f) limits cause
 AnswersGoal limits f number place (report.Memory (Some goal) at) = (goal ≡ number) × (at ≡ place)
 AnswersGoal limits f number place (report.Memory None at) = ⊥
 AnswersGoal limits f number place (report.Refused at why) = ⊥

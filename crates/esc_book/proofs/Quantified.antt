@@ -17,7 +17,7 @@ use Rattle.esc_term.specs.declared.formula.Item.{Item}
 use Rattle.esc_term.specs.Equal.{same_item, same_item-is}
 use Rattle.esc_clause.specs.Occurrences.{formula_at, item_at, occurrences_of, signed}
 use Rattle.esc_clause.specs.declared.occurrence.Occurrence.{Occurrence}
-use Rattle.esc_branch.proofs.Leaders.{or-false}
+use Rattle.esc_said.proofs.Unlike.{or_false}
 use Rattle.esc_cover.proofs.TestLemmas.{false_from, not_both}
 use Rattle.esc_cover.specs.Cover.{by_literal, is_literal}
 use Rattle.esc_egraph.specs.Graph.{Graph}
@@ -133,7 +133,7 @@ module _ (v : BookView) (f : Formula) where
         ∙ (list_any-append (same_item (signed p f)) (items_of v (take i ats))
         (signed at.positive h ∷ [])
         ∙ ap (λ b. is_literal (items_of v (take i ats)) f p || b)
-        (or-false (same_item (signed p f) (signed at.positive h))))
+        (or_false (same_item (signed p f) (signed at.positive h))))
 
     pub literal_same : (before after : Said) → h ≡ f
         → SaysAs before (by_literal (items_of v (take i ats)) f)
@@ -168,7 +168,7 @@ module _ (v : BookView) (f : Formula) where
             → before ≡ is_literal (items_of v (take i ats)) f p
             → after ≡ is_literal (items_of v (take (i + 1) ats)) f p
         one p after before is was =
-            is ∙ (was ∙ (sym (or-false (is_literal (items_of v (take i ats)) f p))
+            is ∙ (was ∙ (sym (or_false (is_literal (items_of v (take i ats)) f p))
             ∙ (ap (λ b. is_literal (items_of v (take i ats)) f p || b)
             (sym (other_formula at.positive p h differ)) ∙ sym (more_literal p))))
 

@@ -4,9 +4,9 @@ use Rattle.std.proofs.Common.{List, [], ◌∷◌, Some, length, refl, ap, ap₂
 use Rattle.std.proofs.Common.{length-append}
 use Rattle.std.specs.List.{flat_map, slice_get}
 use Rattle.esc_term.specs.declared.formula.Formula.{Formula}
-use Rattle.esc_branch.proofs.Leaders.{or-false}
 use Rattle.esc_cover.proofs.CoverLevels.{cover-And, cover-Or}
 use Rattle.esc_cover.specs.Cover.{Cover}
+use Rattle.esc_said.proofs.Unlike.{and_true, or_false}
 use Rattle.esc_said.specs.Speaking.{SaysAs}
 use Rattle.esc_said.specs.declared.said.Said.{Said}
 use Rattle.esc_book.specs.Book.{heads_of}
@@ -23,10 +23,6 @@ or_assoc : (a b c : Bool) → ((a || b) || c) ≡ (a || (b || c))
 or_assoc true b c = refl
 or_assoc false b c = refl
 
-and_true : (a : Bool) → (a && true) ≡ a
-and_true true = refl
-and_true false = refl
-
 abbrev cover_of : Bool → Bool → Cover
 cover_of h f = record { holds = h; fails = f }
 
@@ -38,8 +34,8 @@ joined_assoc false c d e =
     ap₂ cover_of (or_assoc c.holds d.holds e.holds) (and_assoc c.fails d.fails e.fails)
 
 joined_none : (all : Bool) (c : Cover) → joined all c (of_none all) ≡ c
-joined_none true c = ap₂ cover_of (and_true c.holds) (or-false c.fails)
-joined_none false c = ap₂ cover_of (or-false c.holds) (and_true c.fails)
+joined_none true c = ap₂ cover_of (and_true c.holds) (or_false c.fails)
+joined_none false c = ap₂ cover_of (or_false c.holds) (and_true c.fails)
 
 none_joined : (all : Bool) (c : Cover) → joined all (of_none all) c ≡ c
 none_joined true c = refl

@@ -6,7 +6,7 @@ use Rattle.esc_term.specs.declared.formula.Formula.TheVariants.{Implies, Iff}
 use Rattle.esc_term.specs.declared.formula.Formula.TheOpen.{Formula-F}
 use Rattle.esc_term.specs.declared.formula.Formula.TheViews.{roll-Formula}
 use Rattle.esc_term.specs.declared.formula.Formula.TheFolds.{fold-roll-Formula}
-use Rattle.esc_branch.proofs.Falling.{formula_size, formula_step}
+use Rattle.esc_node_terms.proofs.FormulaSize.{formula_size, formula_step}
 
 formula_size-Implies : (f g : Formula)
     → formula_size (Implies f g) ≡ 1 + (formula_size f + formula_size g)

@@ -1,6 +1,8 @@
 pub mod Agreeing
 pub mod ClassTests
 pub mod Finest
+pub mod FormulaParts
+pub mod FormulaSize
 pub mod LiteralForms
 pub mod MadeTerms
 pub mod Once

@@ -32,7 +32,7 @@ use Rattle.esc_outcome.specs.PlainLaws.{PlainValidIsRefuted}
 use Rattle.esc_outcome.specs.TreeLaws.{occurrences_in}
 use Rattle.esc_outcome.specs.declared.branch.Branch.{Branch}
 use Rattle.esc_outcome.specs.declared.branch.Cause.TheVariants as cause
-use Rattle.esc_outcome.specs.declared.limits.Limits.{Limits}
+use Rattle.esc_options.specs.declared.options.Limits.{Limits}
 use Rattle.esc_outcome.specs.declared.stuck.Stuck.{Stuck}
 use Rattle.esc_outcome.proofs.Branches.{splits_run_out_early}
 use Rattle.esc_outcome.proofs.Decided.{not_none}

@@ -17,7 +17,7 @@ use Rattle.esc_outcome.specs.Tree.{IsOccurrence, IsUndecidedAt, formulas_at}
 use Rattle.esc_outcome.specs.declared.branch.Branch.{Branch}
 use Rattle.esc_outcome.specs.declared.branch.Cause.{Cause}
 use Rattle.esc_outcome.specs.declared.branch.Cause.TheVariants as cause
-use Rattle.esc_outcome.specs.declared.limits.Limits.{Limits}
+use Rattle.esc_options.specs.declared.options.Limits.{Limits}
 use Rattle.esc_outcome.specs.declared.stuck.Stuck.{Stuck}
 
 -- the item as a formula

@@ -14,7 +14,7 @@ use Rattle.esc_fact.specs.declared.fact.Fact.{Fact}
 use Rattle.esc_outcome.specs.Labels.{labels_of}
 use Rattle.esc_outcome.specs.declared.counterexample.Class.{Class}
 use Rattle.esc_outcome.specs.declared.counterexample.Counterexample.{Counterexample}
-use Rattle.esc_outcome.specs.declared.limits.Limits.{Limits}
+use Rattle.esc_options.specs.declared.options.Limits.{Limits}
 
 -- a legal log whose formulas are refuted
 pub record IsValid (base : Base) (log : List Fact) (formulas : List Formula) : Type 0 where

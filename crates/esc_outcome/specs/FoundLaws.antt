@@ -10,7 +10,7 @@ use Rattle.esc_fact.specs.declared.base.Base.{Base}
 use Rattle.esc_fact.specs.declared.fact.Fact.{Fact}
 use Rattle.esc_outcome.specs.Found.{IsInvalid, IsValid}
 use Rattle.esc_outcome.specs.declared.counterexample.Counterexample.{Counterexample}
-use Rattle.esc_outcome.specs.declared.limits.Limits.{Limits}
+use Rattle.esc_options.specs.declared.options.Limits.{Limits}
 
 -- a legal log whose formulas are refuted shows its goal valid by these
 abbrev pub RefutedIsValid : Type 0

@@ -11,7 +11,7 @@ use Rattle.esc_outcome.specs.Grown.{AreMet, Grown, IsDoneIn, IsPlace, IsShallowA
 use Rattle.esc_outcome.specs.Tree.{IsFree, IsOccurrence, IsUndecidedAt, Side, path_formulas}
 use Rattle.esc_outcome.specs.TreeLaws.{occurrences_in}
 use Rattle.esc_outcome.specs.declared.branch.Branch.{Branch}
-use Rattle.esc_outcome.specs.declared.limits.Limits.{Limits}
+use Rattle.esc_options.specs.declared.options.Limits.{Limits}
 
 -- ---- the beginning
 

@@ -17,7 +17,7 @@ use Rattle.esc_outcome.specs.FreeLaws.{NumeralsAreSmall}
 use Rattle.esc_outcome.specs.TreeLaws.{occurrences_in}
 use Rattle.esc_outcome.specs.declared.branch.Cause.{Cause}
 use Rattle.esc_outcome.specs.declared.counterexample.Counterexample.{Counterexample}
-use Rattle.esc_outcome.specs.declared.limits.Limits.{Limits}
+use Rattle.esc_options.specs.declared.options.Limits.{Limits}
 
 -- no quantified formula, and no map with a new value
 pub record IsPlain (base : Base) : Type 0 where

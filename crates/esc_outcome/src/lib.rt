@@ -5,12 +5,10 @@ mod branch;
 mod counterexample;
 mod keeping;
 mod laws;
-mod limits;
 mod stuck;
 
 pub use branch::{Branch, Cause, Side, Sides, Split, Splits};
 pub use counterexample::{Class, Classes, Counterexample, Literals, Syms};
 pub use keeping::stuck_of;
 pub use laws::{branch_laws, found_laws, jam_laws, plain_laws, tree_laws};
-pub use limits::{Limits, Show};
 pub use stuck::{Meaning, Meanings, Stuck, TermPairs};

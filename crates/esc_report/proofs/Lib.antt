@@ -1,4 +1,7 @@
-pub mod Free
-pub mod Lines
+pub mod Eaches
+pub mod Entries
+pub mod FreeGoals
+pub mod Joining
 pub mod NamesReadBack
+pub mod Plain
 pub mod SupportedLevels

@@ -1,5 +1,5 @@
 -- A printed name is one token, which reads as that name.
-use Rattle.std.proofs.Common.{◌≡◌, ℕ, ◌<◌, ◌≤◌, List, [], ◌∷◌, ◌++◌, length, Bool, true, false}
+use Rattle.std.proofs.Common.{◌≡◌, ℕ, ◌≤◌, List, [], ◌∷◌, ◌++◌, Bool, true, false}
 use Rattle.std.proofs.Common.{◌&&◌, ◌||◌, ◌==◌, nat_le, refl, ◌∙◌, arith}
 use Rattle.std.proofs.lemmas.Bool.{leb-true, lt-leb, ne_eqb}
 use Rattle.std.specs.Prelude.{not, if◌then◌else◌, IsTrue, codes}
@@ -16,7 +16,6 @@ use Rattle.esc_read.specs.declared.token.Token.TheVariants as token
 use Rattle.esc_read.specs.Tokens.{place_of, text_of, token_of}
 use Rattle.esc_read.proofs.Levels.{place_of-Bare, place_of-Barred, text_of-Bare, text_of-Barred}
 use Rattle.esc_read.proofs.Levels.{token_of-Bare, token_of-Barred}
-use Rattle.esc_print.specs.Names.{spelling_text, stands_bare}
 use Rattle.esc_report.specs.PrintingLaws.{PrintedNamesReadBack}
 
 -- ---- bytes

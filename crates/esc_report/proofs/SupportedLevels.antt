@@ -22,7 +22,7 @@ use Rattle.esc_term.specs.declared.formula.Quant.{Quant}
 use Rattle.esc_report.specs.Supported.{is_plain_head, is_plain_term, is_supported, plain_term_step}
 use Rattle.esc_report.specs.Supported.{supported_step}
 
-pub is_plain_term-Num : (n : _) → is_plain_term (term.Num n) ≡ false
+pub is_plain_term-Num : (n : _) → is_plain_term (term.Num n) ≡ true
 unfolding is_plain_term roll-Term roll
 is_plain_term-Num n = fold-roll-Term Bool plain_term_step (Term-F.Num n)
 
@@ -86,7 +86,8 @@ pub is_supported-Eq : (s t : Term) → is_supported (Eq s t) ≡ (is_plain_term 
 unfolding is_supported roll-Formula roll
 is_supported-Eq s t = fold-roll-Formula Bool Unit supported_step (λ quant. tt) (Formula-F.Eq s t)
 
-pub is_supported-Less : (s t : Term) → is_supported (Less s t) ≡ false
+pub is_supported-Less : (s t : Term) → is_supported (Less s t)
+    ≡ (is_plain_term s && is_plain_term t)
 unfolding is_supported roll-Formula roll
 is_supported-Less s t = fold-roll-Formula Bool Unit supported_step (λ quant. tt)
     (Formula-F.Less s t)
@@ -97,12 +98,14 @@ unfolding is_supported roll-Formula roll
 is_supported-Distinct ts = fold-roll-Formula Bool Unit supported_step (λ quant. tt)
     (Formula-F.Distinct ts)
 
-pub is_supported-LabelPos : (name : Sym) (f : Formula) → is_supported (LabelPos name f) ≡ false
+pub is_supported-LabelPos : (name : Sym) (f : Formula)
+    → is_supported (LabelPos name f) ≡ is_supported f
 unfolding is_supported roll-Formula roll
 is_supported-LabelPos name f = fold-roll-Formula Bool Unit supported_step (λ quant. tt)
     (Formula-F.LabelPos name f)
 
-pub is_supported-LabelNeg : (name : Sym) (f : Formula) → is_supported (LabelNeg name f) ≡ false
+pub is_supported-LabelNeg : (name : Sym) (f : Formula)
+    → is_supported (LabelNeg name f) ≡ is_supported f
 unfolding is_supported roll-Formula roll
 is_supported-LabelNeg name f = fold-roll-Formula Bool Unit supported_step (λ quant. tt)
     (Formula-F.LabelNeg name f)

@@ -2,7 +2,7 @@
 use Rattle.std.specs.Prelude.{ℕ, Bool, true, false, not, ◌&&◌, ◌==◌, length}
 use Rattle.std.specs.List.{list_all}
 use Rattle.esc_term.specs.declared.term.Head.{Head}
-use Rattle.esc_term.specs.declared.term.Head.TheVariants.{Name, Skolem}
+use Rattle.esc_term.specs.declared.term.Head.TheVariants.{Name}
 use Rattle.esc_term.specs.declared.term.Term.{Term}
 use Rattle.esc_term.specs.declared.term.Term.TheOpen.{Term-F}
 use Rattle.esc_term.specs.declared.term.Term.TheFolds.{fold-Term}
@@ -10,20 +10,18 @@ use Rattle.esc_term.specs.declared.formula.Formula.{Formula}
 use Rattle.esc_term.specs.declared.formula.Formula.TheOpen.{Formula-F}
 use Rattle.esc_term.specs.declared.formula.Formula.TheFolds.{fold-Formula}
 
--- no operation on numbers, and no map operation that writes, which is the name 2 with three
--- arguments
+-- no map operation that writes, which is the name 2 with three arguments
 abbrev pub is_plain_head : Head → ℕ → Bool
 is_plain_head (Name f) count = not ((f.0 == 2) && (count == 3))
-is_plain_head (Skolem n i) count = true
-is_plain_head _ count = false
+is_plain_head _ count = true
 
 abbrev pub plain_term_step : Term-F Bool → Bool
-plain_term_step (Term-F.Num n) = false
+plain_term_step (Term-F.Num n) = true
 plain_term_step (Term-F.Var k) = true
 plain_term_step (Term-F.App head args) = is_plain_head head (length args)
     && list_all (λ arg. arg) args
 
--- a term without numbers and writes
+-- a term without writes
 unfoldable pub is_plain_term : Term → Bool
 is_plain_term = fold-Term Bool plain_term_step
 
@@ -35,10 +33,14 @@ supported_step (Formula-F.Or parts) = list_all (λ part. part) parts
 supported_step (Formula-F.Not part) = part
 supported_step (Formula-F.Implies left right) = left && right
 supported_step (Formula-F.Iff left right) = left && right
+supported_step (Formula-F.Forall quant) = false
+supported_step (Formula-F.Exists quant) = false
 supported_step (Formula-F.Eq left right) = is_plain_term left && is_plain_term right
+supported_step (Formula-F.Less left right) = is_plain_term left && is_plain_term right
 supported_step (Formula-F.Distinct terms) = list_all is_plain_term terms
-supported_step _ = false
+supported_step (Formula-F.LabelPos name part) = part
+supported_step (Formula-F.LabelNeg name part) = part
 
--- a formula without quantifiers, orders, labels, numbers and writes
+-- a formula without quantifiers and writes
 unfoldable pub is_supported : Formula → Bool
 is_supported = fold-Formula Bool Unit supported_step (λ quant. tt)

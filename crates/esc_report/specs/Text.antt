@@ -1,32 +1,52 @@
 -- The text of a report. Every line ends with a line feed.
-use Rattle.std.specs.Prelude.{ℕ, List, [], ◌++◌, codes, decimal, Option, Some, None}
-use Rattle.std.specs.List.{flat_map}
-use Rattle.esc_print.specs.Formulas.{literal_text}
-use Rattle.esc_term.specs.declared.formula.Item.{Item}
+use Rattle.std.specs.Prelude.{◌≡◌, ℕ, if◌then◌else◌, List, [], ◌++◌, codes, decimal, length, Option}
+use Rattle.std.specs.Prelude.{Some, None}
+use Rattle.esc_fact.specs.declared.fact.Fact.{Fact}
+use Rattle.esc_term.specs.declared.formula.Formula.{Formula}
 use Rattle.esc_read.specs.declared.fault.FormKind.{FormKind}
 use Rattle.esc_read.specs.declared.fault.FormKind.TheVariants.{WrongCount, NotAFormula, NotATerm}
 use Rattle.esc_read.specs.declared.fault.FormKind.TheVariants.{NumberTooLarge, ReservedName}
 use Rattle.esc_read.specs.declared.fault.FormKind.TheVariants.{DuplicateVariable}
 use Rattle.esc_read.specs.declared.fault.FormKind.TheVariants.{MisplacedPattern, EmptyList}
+use Rattle.esc_outcome.specs.declared.branch.Cause.{Cause}
+use Rattle.esc_outcome.specs.declared.branch.Cause.TheVariants.{Overflow, Pivots, Splits}
+use Rattle.esc_options.specs.declared.options.Show.{Show}
+use Rattle.esc_report.specs.FoundText.{found_text}
+use Rattle.esc_report.specs.LogText.{log_text}
 use Rattle.esc_report.specs.declared.report.Refusal.{Refusal}
 use Rattle.esc_report.specs.declared.report.Refusal.TheVariants.{Form, Unsupported}
 use Rattle.esc_report.specs.declared.report.Report.{Report}
-use Rattle.esc_report.specs.declared.report.Report.TheVariants.{Valid, Invalid, Refused}
-use Rattle.esc_report.specs.declared.report.Report.TheVariants.{Memory, Done}
-
-unfoldable pub opening : List ℕ
-opening = codes "Counterexample:\n  context:\n"
-
--- a literal on a line of its own, behind four blanks
-unfoldable pub literal_line : List (List ℕ) → Item → List ℕ
-literal_line names item = codes "    " ++ (literal_text names item ++ codes "\n")
-
-abbrev pub literal_lines : List (List ℕ) → List Item → List ℕ
-literal_lines names = flat_map (literal_line names)
+use Rattle.esc_report.specs.declared.report.Report.TheVariants.{Valid, Invalid, Unknown}
+use Rattle.esc_report.specs.declared.report.Report.TheVariants.{Refused, Memory, Done}
 
 -- the last line of a goal: its number and its answer
 abbrev pub goal_line : ℕ → List ℕ → List ℕ
 goal_line goal answer = decimal goal ++ answer
+
+-- ---- goals that are valid, or not
+
+unfoldable pub valid_line : ℕ → List ℕ
+valid_line goal = goal_line goal (codes ": Valid.\n")
+
+-- the facts, where they are asked for
+abbrev pub facts_text : List (List ℕ) → Show → List Fact → List Formula → List ℕ
+facts_text names show log formulas = if show.log then log_text names log formulas else []
+
+unfoldable pub invalid_line : ℕ → List ℕ
+invalid_line goal = goal_line goal (codes ": Invalid.\n")
+
+abbrev pub cause_text : Cause → List ℕ
+cause_text (Overflow branch stuck) = codes "arithmetic overflow"
+cause_text (Pivots branch stuck) = codes "pivot limit"
+cause_text (Splits branch next) = codes "split limit"
+
+unfoldable pub cause_line : Cause → List ℕ
+cause_line cause = codes ": Unknown (" ++ (cause_text cause ++ codes ").\n")
+
+abbrev pub unknown_text : ℕ → Cause → List ℕ
+unknown_text goal cause = goal_line goal (cause_line cause)
+
+-- ---- commands that are refused, and want of memory
 
 abbrev pub form_text : FormKind → List ℕ
 form_text WrongCount = codes "wrong number of arguments"
@@ -53,16 +73,19 @@ abbrev pub memory_text : Option ℕ → ℕ → List ℕ
 memory_text (Some goal) place = goal_line goal (codes ": Out of memory.\n")
 memory_text None place = place_line (codes "Out of memory at byte ") place (codes ".\n")
 
-unfoldable pub invalid_line : ℕ → List ℕ
-invalid_line goal = goal_line goal (codes ": Invalid.\n")
+-- ---- reports
 
--- the literals of the counterexample, and then the answer
-abbrev pub invalid_text : List (List ℕ) → ℕ → List Item → List ℕ
-invalid_text names goal literals = opening ++ (literal_lines names literals ++ invalid_line goal)
+unfoldable pub report_text : List (List ℕ) → Show → Report → List ℕ
+report_text names show (Valid goal log formulas) =
+    facts_text names show log formulas ++ valid_line goal
+report_text names show (Invalid goal found) = found_text names show found ++ invalid_line goal
+report_text names show (Unknown goal cause) = unknown_text goal cause
+report_text names show (Refused place why) =
+    place_line (codes "Refused at byte ") place (why_line why)
+report_text names show (Memory goal place) = memory_text goal place
+report_text names show Done = []
 
-unfoldable pub report_text : List (List ℕ) → Report → List ℕ
-report_text names (Valid goal formulas) = goal_line goal (codes ": Valid.\n")
-report_text names (Invalid goal found) = invalid_text names goal found.literals
-report_text names (Refused place why) = place_line (codes "Refused at byte ") place (why_line why)
-report_text names (Memory goal place) = memory_text goal place
-report_text names Done = []
+-- the log of a valid goal has a formula for each fact
+abbrev pub HasEachFormula : Report → Type 0
+HasEachFormula (Valid goal log formulas) = length formulas ≡ length log
+HasEachFormula r = Unit {0}

@@ -1,14 +1,16 @@
 //! What the prover answers to a command, and its text.
 #![tactic(auto)]
 
+mod found;
 mod laws;
-mod limits;
+mod lines;
+mod listed;
+mod log;
 mod put;
 mod report;
 mod supported;
 
 pub use laws::{goal_laws, printing_laws};
-pub use limits::Limits;
 pub use put::put_report;
-pub use report::{Class, Classes, Counterexample, Literals, Refusal, Report};
+pub use report::{Refusal, Report};
 pub use supported::is_supported;

@@ -1,19 +1,121 @@
 //! Writes reports.
 
-ghost use Rattle.std.specs.Prelude.{◌≡◌, ◌++◌};
+ghost use Rattle.std.specs.Prelude.{◌≡◌, ◌++◌, length};
 ghost use Rattle.esc_io.specs.Putting.{Delivers};
-ghost use Rattle.esc_print.specs.Formulas.{literal_text};
-ghost use Rattle.esc_print.specs.Printing.{Prints};
-ghost use Rattle.esc_report.specs.Text.{form_text, goal_line, invalid_line, invalid_text};
-ghost use Rattle.esc_report.specs.Text.{literal_line, literal_lines, memory_text, opening};
-ghost use Rattle.esc_report.specs.Text.{place_line, refusal_text, report_text, why_line};
+ghost use Rattle.esc_report.specs.FoundText.{found_text};
+ghost use Rattle.esc_report.specs.Text.{HasEachFormula, cause_line, cause_text, facts_text};
+ghost use Rattle.esc_report.specs.Text.{form_text, invalid_line, memory_text, place_line};
+ghost use Rattle.esc_report.specs.Text.{refusal_text, report_text, unknown_text, valid_line};
+ghost use Rattle.esc_report.specs.Text.{why_line};
 
+use crate::found::put_found;
+use crate::lines::{put_goal_line, put_place_line, put_three};
+use crate::log::put_log;
 use crate::report::{Refusal, Report};
-use esc_io::{Failed, Sink};
+use esc_fact::Fact;
+use esc_io::{Failed, Sink, put_all};
 use esc_names::Names;
-use esc_print::Printer;
+use esc_options::Show;
+use esc_outcome::{Cause, Counterexample};
+use esc_print::put_number;
 use esc_read::FormKind;
-use esc_term::Item;
+use esc_term::Formula;
+
+// ---- goals that are valid
+
+#[tactic(auto, unfolding(crate::specs::Text::valid_line))]
+fn put_valid_line<K: Sink>(goal: u64, sink: &mut K) -> Result<(), Failed>
+    ensures { Delivers K.written K.faults sink.old sink.new result (valid_line goal) }
+{
+    put_goal_line(goal, b": Valid.\n", sink)
+}
+
+#[tactic(auto, using(esc_io::proofs::PuttingLemmas::putting))]
+fn put_facts<K: Sink>(
+    log: &[Fact],
+    formulas: &[Formula],
+    show: Show,
+    names: &Names,
+    sink: &mut K,
+) -> Result<(), Failed>
+    requires { length formulas.now ≡ length log.now }
+    ensures { Delivers K.written K.faults sink.old sink.new result
+        (facts_text names.now show log.now formulas.now) }
+{
+    if show.log {
+        put_log(log, formulas, names, sink)
+    } else {
+        Ok(())
+    }
+}
+
+#[tactic(auto, using(esc_io::proofs::PuttingLemmas::putting))]
+fn put_valid<K: Sink>(
+    goal: u64,
+    log: &[Fact],
+    formulas: &[Formula],
+    show: Show,
+    names: &Names,
+    sink: &mut K,
+) -> Result<(), Failed>
+    requires { length formulas.now ≡ length log.now }
+    ensures { Delivers K.written K.faults sink.old sink.new result
+        (facts_text names.now show log.now formulas.now ++ valid_line goal) }
+{
+    put_facts(log, formulas, show, names, sink)?;
+    put_valid_line(goal, sink)
+}
+
+// ---- goals that are not
+
+#[tactic(auto, unfolding(crate::specs::Text::invalid_line))]
+fn put_invalid_line<K: Sink>(goal: u64, sink: &mut K) -> Result<(), Failed>
+    ensures { Delivers K.written K.faults sink.old sink.new result (invalid_line goal) }
+{
+    put_goal_line(goal, b": Invalid.\n", sink)
+}
+
+#[tactic(auto, using(esc_io::proofs::PuttingLemmas::putting))]
+fn put_invalid<K: Sink>(
+    goal: u64,
+    found: &Counterexample,
+    show: Show,
+    names: &Names,
+    sink: &mut K,
+) -> Result<(), Failed>
+    ensures { Delivers K.written K.faults sink.old sink.new result
+        (found_text names.now show found.now ++ invalid_line goal) }
+{
+    put_found(found, show, names, sink)?;
+    put_invalid_line(goal, sink)
+}
+
+fn cause_text(cause: &Cause) -> &'static [u8]
+    ensures { result.now ≡ cause_text cause.now }
+{
+    match cause {
+        Cause::Overflow(..) => b"arithmetic overflow",
+        Cause::Pivots(..) => b"pivot limit",
+        Cause::Splits(..) => b"split limit",
+    }
+}
+
+#[tactic(auto, unfolding(crate::specs::Text::cause_line))]
+fn put_cause_line<K: Sink>(cause: &Cause, sink: &mut K) -> Result<(), Failed>
+    ensures { Delivers K.written K.faults sink.old sink.new result (cause_line cause.now) }
+{
+    put_three(b": Unknown (", cause_text(cause), b").\n", sink)
+}
+
+#[tactic(auto, using(esc_io::proofs::PuttingLemmas::putting))]
+fn put_unknown<K: Sink>(goal: u64, cause: &Cause, sink: &mut K) -> Result<(), Failed>
+    ensures { Delivers K.written K.faults sink.old sink.new result (unknown_text goal cause.now) }
+{
+    put_number(goal, sink)?;
+    put_cause_line(cause, sink)
+}
+
+// ---- commands that are refused, and want of memory
 
 fn form_text(kind: FormKind) -> &'static [u8]
     ensures { result.now ≡ form_text kind }
@@ -39,155 +141,64 @@ fn refusal_text(why: Refusal) -> &'static [u8]
     }
 }
 
-fn put_three<K: Sink>(
-    first: &[u8],
-    second: &[u8],
-    third: &[u8],
-    printer: &mut Printer<'_, K>,
-) -> Result<(), Failed>
-    ensures { Prints K.written K.faults printer.old printer.new result
-        (first.now ++ (second.now ++ third.now)) }
-{
-    printer.put_text(first)?;
-    printer.put_text(second)?;
-    printer.put_text(third)
-}
-
-fn put_goal_line<K: Sink>(
-    goal: u64,
-    answer: &[u8],
-    printer: &mut Printer<'_, K>,
-) -> Result<(), Failed>
-    ensures { Prints K.written K.faults printer.old printer.new result
-        (goal_line goal answer.now) }
-{
-    printer.put_number(goal)?;
-    printer.put_text(answer)
-}
-
-fn put_place_line<K: Sink>(
-    words: &[u8],
-    place: u64,
-    rest: &[u8],
-    printer: &mut Printer<'_, K>,
-) -> Result<(), Failed>
-    ensures { Prints K.written K.faults printer.old printer.new result
-        (place_line words.now place rest.now) }
-{
-    printer.put_text(words)?;
-    printer.put_number(place)?;
-    printer.put_text(rest)
-}
-
 #[tactic(auto, unfolding(crate::specs::Text::why_line))]
-fn put_why_line<K: Sink>(why: Refusal, printer: &mut Printer<'_, K>) -> Result<(), Failed>
-    ensures { Prints K.written K.faults printer.old printer.new result (why_line why) }
+fn put_why_line<K: Sink>(why: Refusal, sink: &mut K) -> Result<(), Failed>
+    ensures { Delivers K.written K.faults sink.old sink.new result (why_line why) }
 {
-    put_three(b": ", refusal_text(why), b".\n", printer)
+    put_three(b": ", refusal_text(why), b".\n", sink)
 }
 
-fn put_refused<K: Sink>(
-    words: &[u8],
-    place: u64,
-    why: Refusal,
-    printer: &mut Printer<'_, K>,
-) -> Result<(), Failed>
-    ensures { Prints K.written K.faults printer.old printer.new result
+#[tactic(auto, using(esc_io::proofs::PuttingLemmas::putting))]
+fn put_refused<K: Sink>(words: &[u8], place: u64, why: Refusal, sink: &mut K) -> Result<(), Failed>
+    ensures { Delivers K.written K.faults sink.old sink.new result
         (place_line words.now place (why_line why)) }
 {
-    printer.put_text(words)?;
-    printer.put_number(place)?;
-    put_why_line(why, printer)
+    put_all(sink, words)?;
+    put_number(place, sink)?;
+    put_why_line(why, sink)
 }
 
-fn put_memory<K: Sink>(
-    goal: Option<u64>,
-    place: u64,
-    printer: &mut Printer<'_, K>,
-) -> Result<(), Failed>
-    ensures { Prints K.written K.faults printer.old printer.new result (memory_text goal place) }
+fn put_memory<K: Sink>(goal: Option<u64>, place: u64, sink: &mut K) -> Result<(), Failed>
+    ensures { Delivers K.written K.faults sink.old sink.new result (memory_text goal place) }
 {
     match goal {
-        Some(goal) => put_goal_line(goal, b": Out of memory.\n", printer),
-        None => put_place_line(b"Out of memory at byte ", place, b".\n", printer),
+        Some(goal) => put_goal_line(goal, b": Out of memory.\n", sink),
+        None => put_place_line(b"Out of memory at byte ", place, b".\n", sink),
     }
 }
 
-fn put_literal_between<K: Sink>(
-    before: &[u8],
-    literal: &Item,
-    behind: &[u8],
-    printer: &mut Printer<'_, K>,
-) -> Result<(), Failed>
-    ensures { Prints K.written K.faults printer.old printer.new result
-        (before.now ++ (literal_text printer.old.names.now literal.now ++ behind.now)) }
-{
-    printer.put_text(before)?;
-    printer.put_literal(literal)?;
-    printer.put_text(behind)
-}
-
-#[tactic(auto, unfolding(crate::specs::Text::literal_line))]
-fn put_literal_line<K: Sink>(literal: &Item, printer: &mut Printer<'_, K>) -> Result<(), Failed>
-    ensures { Prints K.written K.faults printer.old printer.new result
-        (literal_line printer.old.names.now literal.now) }
-{
-    put_literal_between(b"    ", literal, b"\n", printer)
-}
-
-fn put_literal_lines<K: Sink>(literals: &[Item], printer: &mut Printer<'_, K>) -> Result<(), Failed>
-    ensures { Prints K.written K.faults printer.old printer.new result
-        (literal_lines printer.old.names.now literals.now) }
-{
-    'literals: for literal in literals {
-        put_literal_line(literal, printer)?;
-    }
-    Ok(())
-}
-
-#[tactic(auto, unfolding(crate::specs::Text::opening))]
-fn put_opening<K: Sink>(printer: &mut Printer<'_, K>) -> Result<(), Failed>
-    ensures { Prints K.written K.faults printer.old printer.new result opening }
-{
-    printer.put_text(b"Counterexample:\n  context:\n")
-}
-
-#[tactic(auto, unfolding(crate::specs::Text::invalid_line))]
-fn put_invalid_line<K: Sink>(goal: u64, printer: &mut Printer<'_, K>) -> Result<(), Failed>
-    ensures { Prints K.written K.faults printer.old printer.new result (invalid_line goal) }
-{
-    put_goal_line(goal, b": Invalid.\n", printer)
-}
-
-fn put_invalid<K: Sink>(
-    goal: u64,
-    literals: &[Item],
-    printer: &mut Printer<'_, K>,
-) -> Result<(), Failed>
-    ensures { Prints K.written K.faults printer.old printer.new result
-        (invalid_text printer.old.names.now goal literals.now) }
-{
-    put_opening(printer)?;
-    put_literal_lines(literals, printer)?;
-    put_invalid_line(goal, printer)
-}
+// ---- reports
 
 /// Writes the text of a report, or a front of it where the sink fails. It takes no memory beyond
 /// the sink's own.
-#[tactic(auto, unfolding(crate::specs::Text::report_text))]
-pub fn put_report<K: Sink>(report: &Report, names: &Names, sink: &mut K) -> Result<(), Failed>
+#[tactic(auto, unfolding(crate::specs::Text::report_text), using(esc_io::proofs::PuttingLemmas::putting))]
+pub fn put_report<K: Sink>(
+    report: &Report,
+    names: &Names,
+    show: Show,
+    sink: &mut K,
+) -> Result<(), Failed>
+    requires { HasEachFormula report.now }
     ensures { Delivers K.written K.faults sink.old sink.new result
-        (report_text names.now report.now) }
+        (report_text names.now show report.now) }
 {
-    let mut printer = Printer::new(names, sink);
-    let printer = &mut printer;
     match report {
-        Report::Valid { goal, .. } => put_goal_line(*goal, b": Valid.\n", printer),
-        Report::Invalid { goal, found } => {
-            put_invalid(*goal, found.literals.as_slice(), printer)
-        }
-        Report::Refused { place, why } => put_refused(b"Refused at byte ", *place, *why, printer),
-        Report::Memory { goal, place } => put_memory(*goal, *place, printer),
+        Report::Valid {
+            goal,
+            log,
+            formulas,
+        } => put_valid(
+            *goal,
+            log.as_slice(),
+            formulas.as_slice(),
+            show,
+            names,
+            sink,
+        ),
+        Report::Invalid { goal, found } => put_invalid(*goal, found, show, names, sink),
+        Report::Unknown { goal, cause } => put_unknown(*goal, cause, sink),
+        Report::Refused { place, why } => put_refused(b"Refused at byte ", *place, *why, sink),
+        Report::Memory { goal, place } => put_memory(*goal, *place, sink),
         Report::Done => Ok(()),
     }
 }

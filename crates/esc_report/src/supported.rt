@@ -6,7 +6,7 @@ ghost use Rattle.esc_report.specs.Supported.{is_plain_head, is_plain_term, is_su
 
 use esc_term::{Formula, Head, Sym, Term};
 
-/// Whether a goal of this formula is answered: it has no quantifier, order, label, number or write.
+/// Whether a goal of this formula is answered: it has no quantifier and no write.
 #[cycle(is_supported)]
 #[tactic(auto, using(crate::proofs::SupportedLevels::supported_levels))]
 pub fn is_supported(formula: &Formula) -> bool
@@ -16,16 +16,15 @@ pub fn is_supported(formula: &Formula) -> bool
         Formula::True | Formula::False => true,
         Formula::And(parts) | Formula::Or(parts) => are_supported(parts.as_slice()),
         Formula::Not(part) => is_supported(part.get()),
+        Formula::LabelPos(_, part) | Formula::LabelNeg(_, part) => is_supported(part.get()),
         Formula::Implies(left, right) | Formula::Iff(left, right) => {
             is_supported(left.get()) && is_supported(right.get())
         }
-        Formula::Eq(left, right) => is_plain_term(left) && is_plain_term(right),
+        Formula::Eq(left, right) | Formula::Less(left, right) => {
+            is_plain_term(left) && is_plain_term(right)
+        }
         Formula::Distinct(terms) => are_plain_terms(terms.as_slice()),
-        Formula::Forall(_)
-        | Formula::Exists(_)
-        | Formula::Less(_, _)
-        | Formula::LabelPos(_, _)
-        | Formula::LabelNeg(_, _) => false,
+        Formula::Forall(_) | Formula::Exists(_) => false,
     }
 }
 
@@ -47,8 +46,7 @@ fn is_plain_term(term: &Term) -> bool
     ensures { result ≡ is_plain_term term.now }
 {
     match term {
-        Term::Num(_) => false,
-        Term::Var(_) => true,
+        Term::Num(_) | Term::Var(_) => true,
         Term::App(head, args) => {
             is_plain_head(*head, args.len()) && are_plain_terms(args.as_slice())
         }
@@ -72,7 +70,6 @@ fn is_plain_head(head: Head, count: usize) -> bool
 {
     match head {
         Head::Name(name) => !(name == Sym::STORE && count == 3),
-        Head::Skolem(_, _) => true,
-        Head::Add | Head::Sub | Head::Mul => false,
+        Head::Skolem(_, _) | Head::Add | Head::Sub | Head::Mul => true,
     }
 }

@@ -25,11 +25,11 @@ or_nested : (a b c : Bool) → ((a || b) || c) ≡ (a || (b || c))
 or_nested true b c = refl
 or_nested false b c = refl
 
-and_true : (a : Bool) → (a && true) ≡ a
+pub and_true : (a : Bool) → (a && true) ≡ a
 and_true true = refl
 and_true false = refl
 
-or_false : (a : Bool) → (a || false) ≡ a
+pub or_false : (a : Bool) → (a || false) ≡ a
 or_false true = refl
 or_false false = refl
 

@@ -33,7 +33,7 @@ use Rattle.esc_search.specs.Proving.{decided_on, live_facts}
 use Rattle.esc_search.specs.SearchInside.{AllAreLive, IsHalted, IsKept, IsSearch, IsWaiting}
 use Rattle.esc_search.specs.SearchInside.{Reaches}
 use Rattle.esc_search.specs.SearchInside.{WasDecided, formulas_under, said_on, steps_left}
-use Rattle.esc_outcome.specs.declared.limits.Limits.{Limits}
+use Rattle.esc_options.specs.declared.options.Limits.{Limits}
 use Rattle.esc_search.specs.declared.open_split.OpenSplit.{OpenSplit}
 use Rattle.esc_search.specs.declared.search.Search.{Search}
 use Rattle.esc_search.proofs.LiveFacts.{filter_map-all_places, length-first}

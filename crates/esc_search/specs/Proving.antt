@@ -20,7 +20,7 @@ use Rattle.esc_outcome.specs.Tree.{path_formulas}
 use Rattle.esc_outcome.specs.declared.branch.Branch.{Branch}
 use Rattle.esc_outcome.specs.declared.branch.Cause.{Cause}
 use Rattle.esc_outcome.specs.declared.branch.Cause.TheVariants as cause
-use Rattle.esc_outcome.specs.declared.limits.Limits.{Limits}
+use Rattle.esc_options.specs.declared.options.Limits.{Limits}
 use Rattle.esc_outcome.specs.declared.stuck.Stuck.{Stuck}
 use Rattle.esc_refine.specs.Refining.{IsDone, IsQuiet}
 use Rattle.esc_search.specs.declared.outcome.Outcome.{Outcome}

@@ -23,7 +23,7 @@ use Rattle.esc_words.specs.declared.setting.Flag.TheVariants.{Log, Model}
 use Rattle.esc_words.specs.declared.setting.Setting.{Setting}
 use Rattle.esc_words.specs.declared.setting.Setting.TheVariants.{Depth, Rounds, Facts, Splits}
 use Rattle.esc_words.specs.declared.setting.Setting.TheVariants.{Pivots}
-use Rattle.esc_words.specs.declared.options.Options.{Options}
+use Rattle.esc_options.specs.declared.options.Options.{Options}
 use Rattle.esc_words.specs.declared.read.WordsStop.{WordsStop}
 use Rattle.esc_words.specs.declared.read.WordsStop.TheVariants as stop
 use Rattle.esc_words.specs.CommandInside.{command, settings}

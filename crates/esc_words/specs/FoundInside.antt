@@ -10,7 +10,7 @@ use Rattle.esc_words.specs.declared.setting.Flag.TheVariants.{Log, Model}
 use Rattle.esc_words.specs.declared.setting.Setting.{Setting}
 use Rattle.esc_words.specs.declared.setting.Setting.TheVariants.{Depth, Rounds, Facts, Splits}
 use Rattle.esc_words.specs.declared.setting.Setting.TheVariants.{Pivots}
-use Rattle.esc_words.specs.declared.options.Options.{Options}
+use Rattle.esc_options.specs.declared.options.Options.{Options}
 use Rattle.esc_words.specs.declared.read.WordsStop.{WordsStop}
 use Rattle.esc_words.specs.declared.read.WordsStop.TheVariants as stop
 use Rattle.esc_words.specs.Uses.{IsNumberUpTo, Text, flag_name, most_of, setting_name, usual_of}

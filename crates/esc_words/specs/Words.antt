@@ -2,7 +2,7 @@
 use Rattle.std.specs.Prelude.{◌≡◌, ◌≢◌, ◌⊎◌, List, [], ◌∷◌, ◌++◌, codes, drop, Result, Ok, Err}
 use Rattle.std.specs.List.{All, AllPairs}
 use Rattle.esc_words.specs.Uses.{HasRightValue, IsWritten, Text, Use, name_of, options_of}
-use Rattle.esc_words.specs.declared.options.Options.{Options}
+use Rattle.esc_options.specs.declared.options.Options.{Options}
 use Rattle.esc_words.specs.declared.read.WordsStop.{WordsStop}
 use Rattle.esc_words.specs.declared.read.WordsStop.TheVariants as stop
 

@@ -4,11 +4,9 @@
 mod command;
 mod laws;
 mod number;
-mod options;
 mod read;
 mod setting;
 
 pub use laws::words_laws;
-pub use options::{Limits, Options, Show};
 pub use read::{WordsStop, read_words};
 pub use setting::{Flag, Setting};

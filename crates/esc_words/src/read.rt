@@ -9,10 +9,10 @@ ghost use Rattle.esc_words.specs.Words.{AsksFor};
 
 use crate::command::matches_in;
 use crate::number::number;
-use crate::options::{Limits, Options, Show};
 use crate::setting::{Flag, Setting};
 use clap::ArgMatches;
 use clap::error::ErrorKind;
+use esc_options::{Limits, Options, Show};
 use std::alloc::Global;
 use thiserror::Error;
 

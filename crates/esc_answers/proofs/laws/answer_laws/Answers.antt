@@ -1,5 +1,11 @@
-use Rattle.esc_answers.proofs.Complete.{answers_are_complete}
+use Rattle.esc_answers.proofs.Told.{answers_are_sharp, answers_are_sound}
 use Rattle.esc_answers.proofs.laws.answer_laws.Goals as goal
 
 pub returns : goal.returns
-returns c = record { complete = answers_are_complete c.goal_laws.ensures.not_refuted }
+returns c =
+    let goals = c.goal_laws.ensures in
+    let plain = c.plain_laws.ensures in
+    record {
+      sound = answers_are_sound plain.valid goals.plain;
+      sharp = answers_are_sharp plain.valid plain.not_refuted plain.splits goals.plain goals.free;
+    }

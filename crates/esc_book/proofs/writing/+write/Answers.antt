@@ -1,7 +1,7 @@
 use Rattle.std.proofs.Common.{arith, sym, subst}
 use Rattle.std.specs.List.{All, Contains}
 use Rattle.esc_term.specs.Formula.{terms_of}
-use Rattle.esc_branch.proofs.Falling.{falls-part, falls-parts, formula_size}
+use Rattle.esc_node_terms.proofs.FormulaSize.{falls-part, falls-parts, formula_size}
 use Rattle.esc_node_terms.proofs.TermSize.{falls-item}
 use Rattle.esc_sharing.specs.Nodes.{terms_in}
 use Rattle.esc_book.specs.Book.{heads_of}

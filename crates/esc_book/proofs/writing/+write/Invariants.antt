@@ -1,6 +1,6 @@
 use Rattle.std.proofs.Common.{◌+◌, ◌*◌, map, sum, take}
 use Rattle.std.specs.List.{flat_map}
-use Rattle.esc_branch.proofs.Falling.{formula_size}
+use Rattle.esc_node_terms.proofs.FormulaSize.{formula_size}
 use Rattle.esc_book.specs.Book.{heads_of}
 use Rattle.esc_book.specs.WritingInside.{Writes}
 use Rattle.esc_book.proofs.writing.+write.Given as goal

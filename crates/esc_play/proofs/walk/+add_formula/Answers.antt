@@ -1,9 +1,9 @@
 use Rattle.std.proofs.Common.{◌≡◌, true, inl, inr, [], ap, arith, ◌∙◌}
 use Rattle.esc_term.specs.Formula.{is_closed, terms_of}
-use Rattle.esc_branch.proofs.Falling.{falls-left, falls-part, falls-parts, falls-right}
-use Rattle.esc_branch.proofs.Falling.{formula_size}
-use Rattle.esc_branch.proofs.Walking.{both_are_closed, both_are_ground}
-use Rattle.esc_branch.proofs.Walking.{part_is_closed, parts_are_closed, places_are_ground}
+use Rattle.esc_node_terms.proofs.FormulaSize.{falls-left, falls-part, falls-parts, falls-right}
+use Rattle.esc_node_terms.proofs.FormulaSize.{formula_size}
+use Rattle.esc_node_terms.proofs.FormulaParts.{both_are_closed, both_are_ground}
+use Rattle.esc_node_terms.proofs.FormulaParts.{part_is_closed, parts_are_closed, places_are_ground}
 use Rattle.esc_node_terms.proofs.TermSize.{falls-item}
 use Rattle.esc_node_terms.proofs.Walking.{each_passes}
 use Rattle.esc_sharing.specs.SharingUndo.{part_carried}

@@ -1,7 +1,7 @@
 use Rattle.std.proofs.Common.{◌+◌, ◌*◌, map, sum, take}
 use Rattle.std.specs.List.{flat_map}
 use Rattle.esc_term.specs.Formula.{terms_of}
-use Rattle.esc_branch.proofs.Falling.{formula_size}
+use Rattle.esc_node_terms.proofs.FormulaSize.{formula_size}
 use Rattle.esc_sharing.specs.SharingUndo.{part_carried}
 use Rattle.esc_outcome.specs.JamLaws.{shared_in}
 use Rattle.esc_play.specs.WalkingInside.{Brings, Walks, sides_in}

@@ -1,9 +1,9 @@
-use Rattle.esc_report.proofs.Free.{invalid_is_not_refuted, supported_has_no_numbers}
+use Rattle.esc_report.proofs.FreeGoals.{free_goal_is_plain_and_free}
+use Rattle.esc_report.proofs.Plain.{supported_is_plain}
 use Rattle.esc_report.proofs.laws.goal_laws.Goals as goal
 
 pub returns : goal.returns
 returns c = record {
-  no_numbers = supported_has_no_numbers;
-  not_refuted = invalid_is_not_refuted
-      c.counterexample_laws.ensures.not_refuted;
+  plain = supported_is_plain;
+  free = free_goal_is_plain_and_free supported_is_plain;
 }

@@ -1,9 +1,0 @@
-pub mod Answering
-pub mod Composing
-pub mod Falling
-pub mod InOrder
-pub mod ListLemmas
-pub mod Parts
-pub mod SizeLevels
-pub mod Split
-pub mod Taken

@@ -1,4 +1,0 @@
-pub mod BranchUndo
-pub mod StartingInside
-pub mod Steps
-pub mod View

@@ -1,0 +1,27 @@
+use Rattle.esc_io.proofs.PuttingLemmas.{Delivers-fails, Delivers-then}
+use Rattle.esc_report.proofs.found.put_class_between.Goals as goal
+
+pub returns-in_err-put_all : goal.returns-in_err-put_all
+returns-in_err-put_all g c =
+    let end = c.from_residual in
+    Delivers-fails end.result _ end.ensures.0 c.in_err-put_all.ensures
+
+pub returns-in_err-put_terms : goal.returns-in_err-put_terms
+returns-in_err-put_terms g c =
+    let end = c.from_residual-in_err-put_terms in
+    Delivers-then c.in_ok-put_all.ensures
+    (Delivers-fails end.result _ end.ensures.0 c.in_err-put_terms.ensures)
+
+pub returns-in_err-put_value : goal.returns-in_err-put_value
+returns-in_err-put_value g c =
+    let end = c.from_residual-in_err-put_value in
+    Delivers-then c.in_ok-put_all.ensures
+    (Delivers-then c.in_ok-put_terms.ensures
+    (Delivers-fails end.result _ end.ensures.0 c.in_err-put_value.ensures))
+
+pub returns : goal.returns
+returns g c =
+    Delivers-then c.in_ok-put_all.ensures
+    (Delivers-then c.in_ok-put_terms.ensures
+    (Delivers-then c.in_ok-put_value.ensures
+    c.put_all-2.ensures))

@@ -1,9 +1,0 @@
-use Rattle.esc_reports.proofs.FreeGoals.{free_goal_is_plain_and_free}
-use Rattle.esc_reports.proofs.Plain.{supported_is_plain}
-use Rattle.esc_reports.proofs.laws.goal_laws.Goals as goal
-
-pub returns : goal.returns
-returns c = record {
-  plain = supported_is_plain;
-  free = free_goal_is_plain_and_free supported_is_plain;
-}
