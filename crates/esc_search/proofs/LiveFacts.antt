@@ -1,6 +1,6 @@
 -- The facts that are live, and their formulas.
 use Rattle.std.proofs.Common.{◌≡◌, ℕ, ◌<◌, ◌+◌, zero, suc, true, List, [], ◌∷◌, ◌++◌, Option, Some, None, length, take, get_or}
-use Rattle.std.proofs.Common.{append_assoc, refl, sym, ap, ap₂, subst, ◌∙◌, inl, inr, arith}
+use Rattle.std.proofs.Common.{append-nil, append_assoc, refl, sym, ap, ap₂, subst, ◌∙◌, inl, inr, arith}
 use Rattle.std.specs.Prelude.{IsSome, slice_get}
 use Rattle.std.specs.List.{All, Contains, cons_option, filter_map, range_with_len}
 use Rattle.std.specs.Option.{option_and_then}
@@ -139,6 +139,29 @@ module _ {X Y : Type 0} (h : X → Option Y) (P : Y → Type 0) where
             (All-head P v (filter_map h xs) rest)
         | inr later ↦ others (All-tail P v (filter_map h xs) rest) later
       ]
+
+-- ---- one place more
+
+module _ {X Y : Type 0} (h : X → Option Y) (xs : List X) (i : ℕ) (d : X)
+    (before : i < length xs) where
+  filter_map-take : filter_map h (take (i + 1) xs)
+      ≡ filter_map h (take i xs) ++ cons_option (h (get_or xs i d)) []
+  filter_map-take =
+      ap (filter_map h) (take_more xs i d before)
+      ∙ filter_map-append h (take i xs) (get_or xs i d ∷ [])
+
+  pub filter_map-take_some : (y : Y) → h (get_or xs i d) ≡ Some y
+      → filter_map h (take (i + 1) xs) ≡ filter_map h (take i xs) ++ y ∷ []
+  filter_map-take_some y is =
+      filter_map-take ∙ ap (λ o. filter_map h (take i xs) ++ cons_option o []) is
+
+  pub filter_map-take_none : h (get_or xs i d) ≡ None
+      → filter_map h (take (i + 1) xs) ≡ filter_map h (take i xs)
+  filter_map-take_none is =
+      filter_map-take ∙ (ap (λ o. filter_map h (take i xs) ++ cons_option o []) is
+      ∙ append-nil (filter_map h (take i xs)))
+
+-- ---- models
 
 -- a model of the log with what was decided is one of the live facts with it
 pub live_true : (base : Base) (s : Search) (I : Interpretation) (ds : List Formula)

@@ -7,7 +7,7 @@ ghost use Rattle.esc_live.specs.View.{judge_on, literals_on};
 ghost use Rattle.esc_outcome.specs.Causes.{is_endless, is_overflow};
 ghost use Rattle.esc_outcome.specs.JamLaws.{stuck_with};
 ghost use Rattle.esc_refine.specs.Refining.{IsQuiet, SplitsAt};
-ghost use Rattle.esc_search.specs.Proving.{ComesTo, IsStopped, branch_of};
+ghost use Rattle.esc_search.specs.Proving.{ComesTo, IsStopped, branch_of, live_facts};
 ghost use Rattle.esc_search.specs.declared.search.Search.{Search as Searches};
 ghost use Rattle.esc_search.specs.SearchInside.{HaltsUnlessMemory, IsHalted, IsOpenHere, IsSearch};
 
@@ -30,6 +30,20 @@ impl Search {
         let mut facts = Items::new(self.alloc);
         'facts: for fact in self.log.list() {
             facts.push(fact.copied(self.alloc)?)?;
+        }
+        Ok(facts)
+    }
+
+    /// The facts that are live on the branch at hand, in the order in which they became live. It
+    /// fails only where memory is wanting.
+    pub fn live(&self) -> Result<Facts, AllocError>
+        ensures { IfOk result (λ facts. facts ≡ live_facts self.now) }
+    {
+        let mut facts = Items::new(self.alloc);
+        'places: for place in self.branch.book.live() {
+            if let Some(fact) = self.log.list().get(*place) {
+                facts.push(fact.copied(self.alloc)?)?;
+            }
         }
         Ok(facts)
     }

@@ -1,6 +1,7 @@
+pub mod Answering
 pub mod Commands
-pub mod Complete
 pub mod FirstNames
+pub mod GoalReports
 pub mod ProgressLemmas
 pub mod RanLemmas
 pub mod ReadingLemmas

@@ -5,18 +5,19 @@ use Rattle.esc_io.specs.Taking.{Takes}
 use Rattle.esc_io.proofs.TakingLemmas.{Takes-start, Takes-then}
 use Rattle.esc_names.specs.Numbering.{first_names}
 use Rattle.esc_names.specs.Rows.{HasDistinctRows}
+use Rattle.esc_options.specs.declared.options.Limits.{Limits}
 use Rattle.esc_read.specs.Reading.{Extends}
 use Rattle.esc_sexp.specs.declared.sexp.Sexp.{Sexp}
 use Rattle.esc_answers.specs.State.{State, first_state}
 use Rattle.esc_top.specs.Answers.{AnswersExpression}
-use Rattle.esc_top.specs.Progress.{Progress, limits_of_run}
+use Rattle.esc_top.specs.Progress.{Progress}
 use Rattle.esc_top.specs.Told.{Told}
 use Rattle.esc_top.proofs.FirstNames.{first_distinct}
 use Rattle.esc_top.proofs.ToldLemmas.{AnswersAll-push}
 
 -- nothing was read
-abbrev pub progress_start : (left : Option (List ℕ)) → Progress left left
-progress_start left = record {
+abbrev pub progress_start : (limits : Limits) (left : Option (List ℕ)) → Progress limits left left
+progress_start limits left = record {
   taken = [];
   ended = false;
   expressions = [];
@@ -30,10 +31,11 @@ progress_start left = record {
 }
 
 -- an expression is answered
-abbrev pub progress_told : {left rest : Option (List ℕ)} (p : Progress left rest) (e : Sexp)
-    (told : Told) (now : State) → Extends p.names told.names → HasDistinctRows told.names
-    → AnswersExpression limits_of_run told.names p.state e told.report now → Progress left rest
-progress_told p e told now names distinct answers = record {
+abbrev pub progress_told : {left rest : Option (List ℕ)} (limits : Limits)
+    (p : Progress limits left rest) (e : Sexp) (told : Told) (now : State)
+    → Extends p.names told.names → HasDistinctRows told.names
+    → AnswersExpression limits told.names p.state e told.report now → Progress limits left rest
+progress_told limits p e told now names distinct answers = record {
   taken = p.taken;
   ended = p.ended;
   expressions = p.expressions ++ e ∷ [];
@@ -43,13 +45,14 @@ progress_told p e told now names distinct answers = record {
   consumed = p.consumed;
   at_end = p.at_end;
   distinct = distinct;
-  answers = AnswersAll-push first_names first_state p.expressions p.told p.names p.state e told now
-      p.answers names answers;
+  answers = AnswersAll-push limits first_names first_state p.expressions p.told p.names p.state e
+      told now p.answers names answers;
 }
 
 -- bytes are taken
-abbrev pub progress_fed : {left mid rest : Option (List ℕ)} (p : Progress left mid) (piece : List ℕ)
-    (ended : Bool) → Takes mid rest piece → (IsTrue ended → IsAtEnd rest) → Progress left rest
+abbrev pub progress_fed : {limits : Limits} {left mid rest : Option (List ℕ)}
+    (p : Progress limits left mid) (piece : List ℕ) (ended : Bool) → Takes mid rest piece
+    → (IsTrue ended → IsAtEnd rest) → Progress limits left rest
 progress_fed p piece ended takes end = record {
   taken = p.taken ++ piece;
   ended = ended;
@@ -69,8 +72,9 @@ takes_nothing {left} {mid} {rest} {taken} p q = subst (λ (l : List ℕ). Takes 
     (append-nil taken) (Takes-then p q)
 
 -- a read brings no byte
-abbrev pub progress_unfed : {left mid rest : Option (List ℕ)} (p : Progress left mid) (ended : Bool)
-    → Takes mid rest [] → (IsTrue ended → IsAtEnd rest) → Progress left rest
+abbrev pub progress_unfed : {limits : Limits} {left mid rest : Option (List ℕ)}
+    (p : Progress limits left mid) (ended : Bool)
+    → Takes mid rest [] → (IsTrue ended → IsAtEnd rest) → Progress limits left rest
 progress_unfed p ended takes end = record {
   taken = p.taken;
   ended = ended;

@@ -1,21 +1,28 @@
 -- The status that a run ends with is due, and no other is.
-use Rattle.std.proofs.Common.{◌≡◌, ℕ, zero, suc, ◌-◌, ◌<◌, ◌≤◌, Bool, true, false, IsTrue, inl, inr, List, [], ◌∷◌, ◌++◌, length, take, append_assoc, length-append, arith, Option, None, Some, refl, sym, ap, subst, ◌∙◌}
-use Rattle.std.specs.Prelude.{◌≢◌, ◌↔◌}
+use Rattle.std.proofs.Common.{◌≡◌, ℕ, zero, suc, ◌-◌, ◌≤◌, Bool, true, false, IsTrue, inl, inr}
+use Rattle.std.proofs.Common.{List, [], ◌∷◌, ◌++◌, length, take, append_assoc, length-append, arith}
+use Rattle.std.proofs.Common.{Option, None, Some, Ok, Err, refl, sym, ap, subst, ◌∙◌}
+use Rattle.std.specs.Prelude.{◌≢◌}
 use Rattle.std.specs.Io.KnownBytes.{IsAtEnd}
-use Rattle.std.proofs.lemmas.Bool.{cases_lt}
 use Rattle.std.proofs.lemmas.List.{append-nil}
 use Rattle.esc_io.specs.Taking.{Takes}
+use Rattle.esc_options.specs.declared.options.Options.{Options}
 use Rattle.esc_sexp.specs.declared.sexp.Sexp.{Sexp}
 use Rattle.esc_sexp.specs.declared.sexp.SexpFault.{SexpFault}
 use Rattle.esc_sexp.specs.Grammar as grammar
 use Rattle.esc_sexp.specs.Grammar.{End, Finds, FirstFault, Reads, broken, whole}
 use Rattle.esc_sexp.specs.Laws.{ExpressionOrFault, FaultStays, FoundStays, OneExpression, OneReading}
-use Rattle.esc_top.specs.Laws.{AreTooMany, BreaksIn, CanBeRead, IsDue, StatusIsDue, as_read, is_stopped}
+use Rattle.esc_words.specs.Uses.{Text}
+use Rattle.esc_words.specs.Words.{AsksFor}
+use Rattle.esc_words.specs.declared.read.WordsStop.TheVariants.{Bad}
+use Rattle.esc_top.specs.Laws.{AreRight, AreTooMany, BreaksIn, CanBeRead, IsDue, StatusIsDue}
+use Rattle.esc_top.specs.Laws.{as_read, is_stopped}
 use Rattle.esc_top.specs.Progress.{Progress}
-use Rattle.esc_top.specs.Ran.{IsReadTo}
+use Rattle.esc_top.specs.Ran.{AreAsked, IsReadTo}
 use Rattle.esc_top.specs.Reading.{BeginsAs, HasWhole, IsBrokenBehind, max_input}
 use Rattle.esc_top.specs.declared.status.Status.{Status}
-use Rattle.esc_top.specs.declared.status.Status.TheVariants.{Proved, Answered, BadWords, Syntax, WriteFault, TooMuch}
+use Rattle.esc_top.specs.declared.status.Status.TheVariants.{Proved, Answered, BadWords, Syntax}
+use Rattle.esc_top.specs.declared.status.Status.TheVariants.{WriteFault, TooMuch}
 use Rattle.esc_top.proofs.ReadingLemmas.{Reads-behind}
 
 -- ---- the front of a text
@@ -97,13 +104,9 @@ left_over : (bytes : List ℕ) (rest : Option (List ℕ)) (taken : List ℕ)
 left_over bytes None taken takes = absurd takes.consumed
 left_over bytes (Some behind) taken takes = (behind, takes.consumed, λ end. end)
 
-few_words : (words : ℕ) (status : Status) → (status ≡ BadWords) ↔ (1 < words)
-    → (status ≡ BadWords → ⊥) → words ≤ 1
-few_words words status worded other = elim (cases_lt 1 words)
-    [ inl many ↦ absurd (other (worded.1 many)) | inr few ↦ few ]
-
-module _ (found_stays : FoundStays) (fault_stays : FaultStays) (words : ℕ) (bytes : List ℕ)
-    (rest : Option (List ℕ)) (p : Progress (Some bytes) rest) where
+module _ (found_stays : FoundStays) (fault_stays : FaultStays) (words : List Text)
+    (options : Options) (bytes : List ℕ) (rest : Option (List ℕ))
+    (p : Progress options.limits (Some bytes) rest) where
   abbrev behind : List ℕ
   behind = (left_over bytes rest p.taken p.consumed).0
 
@@ -156,32 +159,20 @@ module _ (found_stays : FoundStays) (fault_stays : FaultStays) (words : ℕ) (by
         omega (arith, ap length all, length-append first (byte ∷ behind), long),
       )
 
-  due : (status : Status) → (status ≡ BadWords) ↔ (1 < words)
+  due : (status : Status) → AreAsked status words options p.taken p.told
       → IsReadTo status p.ended p.taken p.expressions p.told
       → (status ≢ TooMuch → length p.taken ≤ max_input)
       → is_stopped status ≡ false → IsDue words bytes status
-  due Proved worded read within runs_on = (
-    few_words words Proved worded (λ e. cc),
-    whole_read
-        read.0 (within (λ e. cc)) read.1,
-  )
-  due Answered worded read within runs_on = (
-    few_words words Answered worded (λ e. cc),
-    whole_read
-        read.0 (within (λ e. cc)) read.1,
-  )
-  due BadWords worded read within runs_on = worded.0 refl
-  due (Syntax f) worded read within runs_on = (
-    few_words words (Syntax f) worded (λ e. cc),
-    breaks f
-        p.ended refl (within (λ e. cc)) read,
-  )
-  due TooMuch worded read within runs_on = (
-    few_words words TooMuch worded (λ e. cc),
-    too_many
-        read.first read.byte read.taken_is read.long read.held,
-  )
-  due status worded read within runs_on = absurd (cc)
+  due Proved asked read within runs_on =
+      ((options, asked), whole_read read.0 (within (λ e. cc)) read.1)
+  due Answered asked read within runs_on =
+      ((options, asked), whole_read read.0 (within (λ e. cc)) read.1)
+  due BadWords asked read within runs_on = asked
+  due (Syntax f) asked read within runs_on =
+      ((options, asked), breaks f p.ended refl (within (λ e. cc)) read)
+  due TooMuch asked read within runs_on =
+      ((options, asked), too_many read.first read.byte read.taken_is read.long read.held)
+  due status asked read within runs_on = absurd (cc)
 
 -- ---- no two statuses are due
 
@@ -207,51 +198,55 @@ module _ (one_expression : OneExpression) (either : ExpressionOrFault) (one_read
         k.1.begins k.1.no_further k.1.no_fault early.2 early.3
   ]
 
-  read_and_due : (words : ℕ) (t : Status) → words ≤ 1 → CanBeRead bytes → IsDue words bytes t
-      → as_read t ≡ Answered
-  read_and_due words Proved few h k = refl
-  read_and_due words Answered few h k = refl
-  read_and_due words BadWords few h k = absurd (omega (arith, few, k))
-  read_and_due words (Syntax f) few h k = absurd (read_and_broken f h k.1)
-  read_and_due words TooMuch few h k = absurd (read_and_many h k.1)
-  read_and_due words t few h k = absurd k
+  module _ (words : List Text) where
+    right_and_bad : AreRight words → AsksFor words (Err Bad) → ⊥
+    right_and_bad right bad = bad right.1.0 right.1.1
 
-  worded_and_due : (words : ℕ) (t : Status) → 1 < words → IsDue words bytes t → as_read t ≡ BadWords
-  worded_and_due words BadWords many k = refl
-  worded_and_due words Proved many k = absurd (omega (arith, many, k.0))
-  worded_and_due words Answered many k = absurd (omega (arith, many, k.0))
-  worded_and_due words (Syntax f) many k = absurd (omega (arith, many, k.0))
-  worded_and_due words TooMuch many k = absurd (omega (arith, many, k.0))
-  worded_and_due words t many k = absurd k
+    read_and_due : (t : Status) → AreRight words → CanBeRead bytes → IsDue words bytes t
+        → as_read t ≡ Answered
+    read_and_due Proved right h k = refl
+    read_and_due Answered right h k = refl
+    read_and_due BadWords right h k = absurd (right_and_bad right k)
+    read_and_due (Syntax f) right h k = absurd (read_and_broken f h k.1)
+    read_and_due TooMuch right h k = absurd (read_and_many h k.1)
+    read_and_due t right h k = absurd k
 
-  broken_and_due : (words : ℕ) (t : Status) (f : SexpFault) → words ≤ 1 → BreaksIn bytes f
-      → IsDue words bytes t → as_read t ≡ Syntax f
-  broken_and_due words Proved f few h k = absurd (read_and_broken f k.1 h)
-  broken_and_due words Answered f few h k = absurd (read_and_broken f k.1 h)
-  broken_and_due words BadWords f few h k = absurd (omega (arith, few, k))
-  broken_and_due words (Syntax g) f few h k = one_fault_due g f k.1 h
-  broken_and_due words TooMuch f few h k = absurd (broken_and_many f h k.1)
-  broken_and_due words t f few h k = absurd k
+    bad_and_due : (t : Status) → AsksFor words (Err Bad) → IsDue words bytes t
+        → as_read t ≡ BadWords
+    bad_and_due BadWords bad k = refl
+    bad_and_due Proved bad k = absurd (right_and_bad k.0 bad)
+    bad_and_due Answered bad k = absurd (right_and_bad k.0 bad)
+    bad_and_due (Syntax f) bad k = absurd (right_and_bad k.0 bad)
+    bad_and_due TooMuch bad k = absurd (right_and_bad k.0 bad)
+    bad_and_due t bad k = absurd k
 
-  many_and_due : (words : ℕ) (t : Status) → words ≤ 1 → AreTooMany bytes → IsDue words bytes t
-      → as_read t ≡ TooMuch
-  many_and_due words Proved few h k = absurd (read_and_many k.1 h)
-  many_and_due words Answered few h k = absurd (read_and_many k.1 h)
-  many_and_due words BadWords few h k = absurd (omega (arith, few, k))
-  many_and_due words (Syntax f) few h k = absurd (broken_and_many f k.1 h)
-  many_and_due words TooMuch few h k = refl
-  many_and_due words t few h k = absurd k
+    broken_and_due : (t : Status) (f : SexpFault) → AreRight words → BreaksIn bytes f
+        → IsDue words bytes t → as_read t ≡ Syntax f
+    broken_and_due Proved f right h k = absurd (read_and_broken f k.1 h)
+    broken_and_due Answered f right h k = absurd (read_and_broken f k.1 h)
+    broken_and_due BadWords f right h k = absurd (right_and_bad right k)
+    broken_and_due (Syntax g) f right h k = one_fault_due g f k.1 h
+    broken_and_due TooMuch f right h k = absurd (broken_and_many f h k.1)
+    broken_and_due t f right h k = absurd k
 
-  one_due : (words : ℕ) (s t : Status) → IsDue words bytes s → IsDue words bytes t → as_read t
-      ≡ as_read s
-  one_due words Proved t h k = read_and_due words t h.0 h.1 k
-  one_due words Answered t h k = read_and_due words t h.0 h.1 k
-  one_due words BadWords t h k = worded_and_due words t h k
-  one_due words (Syntax f) t h k = broken_and_due words t f h.0 h.1 k
-  one_due words TooMuch t h k = many_and_due words t h.0 h.1 k
-  one_due words s t h k = absurd h
+    many_and_due : (t : Status) → AreRight words → AreTooMany bytes → IsDue words bytes t
+        → as_read t ≡ TooMuch
+    many_and_due Proved right h k = absurd (read_and_many k.1 h)
+    many_and_due Answered right h k = absurd (read_and_many k.1 h)
+    many_and_due BadWords right h k = absurd (right_and_bad right k)
+    many_and_due (Syntax f) right h k = absurd (broken_and_many f k.1 h)
+    many_and_due TooMuch right h k = refl
+    many_and_due t right h k = absurd k
 
-due_read : (words : ℕ) (bytes : List ℕ) (s : Status) → IsDue words bytes s
+    one_due : (s t : Status) → IsDue words bytes s → IsDue words bytes t → as_read t ≡ as_read s
+    one_due Proved t h k = read_and_due t h.0 h.1 k
+    one_due Answered t h k = read_and_due t h.0 h.1 k
+    one_due BadWords t h k = bad_and_due t h k
+    one_due (Syntax f) t h k = broken_and_due t f h.0 h.1 k
+    one_due TooMuch t h k = many_and_due t h.0 h.1 k
+    one_due s t h k = absurd h
+
+due_read : (words : List Text) (bytes : List ℕ) (s : Status) → IsDue words bytes s
     → IsDue words bytes (as_read s)
 due_read words bytes Proved h = h
 due_read words bytes Answered h = h
@@ -260,7 +255,7 @@ due_read words bytes (Syntax f) h = h
 due_read words bytes TooMuch h = h
 due_read words bytes s h = absurd h
 
-due_of_read : (words : ℕ) (bytes : List ℕ) (s : Status) → IsDue words bytes (as_read s)
+due_of_read : (words : List Text) (bytes : List ℕ) (s : Status) → IsDue words bytes (as_read s)
     → IsDue words bytes s
 due_of_read words bytes Proved h = h
 due_of_read words bytes Answered h = h
@@ -279,7 +274,8 @@ status_is_due found fault one either reading words bytes rest written now before
     runs_on =
     let is : result ≡ ran.reached = (ran.whole_text (no_write_fault result runs_on)).0 in
     let reached : IsDue words bytes ran.reached =
-    due found fault words bytes rest ran.progress ran.reached ran.worded ran.read ran.within
+    due found fault words ran.options bytes rest ran.progress ran.reached ran.asked ran.read
+    ran.within
     (subst (λ (s : Status). is_stopped s ≡ false) is runs_on) in
     let mine : IsDue words bytes result = subst (IsDue words bytes) (sym is) reached in
     λ status. (

@@ -2,40 +2,43 @@
 use Rattle.std.proofs.Common.{◌≡◌, ℕ, Bool, true, false, ◌&&◌, List, [], ◌∷◌, ◌++◌, refl, ap, subst, ◌∙◌}
 use Rattle.std.proofs.lemmas.List.{append-nil}
 use Rattle.std.proofs.lemmas.List.Concat.{flat_map-append}
+use Rattle.esc_options.specs.declared.options.Limits.{Limits}
+use Rattle.esc_options.specs.declared.options.Show.{Show}
 use Rattle.esc_sexp.specs.declared.sexp.Sexp.{Sexp}
 use Rattle.esc_read.specs.Reading.{Extends}
 use Rattle.esc_answers.specs.State.{State}
 use Rattle.esc_report.specs.Text.{report_text}
 use Rattle.esc_top.specs.Answers.{AnswersExpression}
-use Rattle.esc_top.specs.Progress.{limits_of_run}
 use Rattle.esc_top.specs.Told.{Told, AnswersAll, all_proved, is_proved_report, texts}
 
-pub AnswersAll-push : (names : List (List ℕ)) (s : State) (es : List Sexp) (tolds : List Told)
-    (between : List (List ℕ)) (before : State) (e : Sexp) (told : Told) (now : State)
-    → AnswersAll limits_of_run names s es tolds between before → Extends between told.names
-    → AnswersExpression limits_of_run told.names before e told.report now
-    → AnswersAll limits_of_run names s (es ++ e ∷ []) (tolds ++ told ∷ []) told.names now
-AnswersAll-push names s [] [] between before e told now h grown answers = (
-  now,
-  subst (λ (n : List (List ℕ)). Extends n told.names) h.0 grown,
-  subst (λ (k : State). AnswersExpression limits_of_run told.names k e told.report now) h.1 answers,
-  (refl, refl),
-)
-AnswersAll-push names s (first ∷ es) (t ∷ tolds) between before e told now h grown answers = (
-  h.0,
-  h.1,
-  h.2,
-  AnswersAll-push t.names h.0 es tolds between before e told now h.3 grown
-      answers,
-)
-AnswersAll-push names s [] (t ∷ tolds) between before e told now h grown answers = absurd h
-AnswersAll-push names s (first ∷ es) [] between before e told now h grown answers = absurd h
+module _ (limits : Limits) where
+  pub AnswersAll-push : (names : List (List ℕ)) (s : State) (es : List Sexp) (tolds : List Told)
+      (between : List (List ℕ)) (before : State) (e : Sexp) (told : Told) (now : State)
+      → AnswersAll limits names s es tolds between before → Extends between told.names
+      → AnswersExpression limits told.names before e told.report now
+      → AnswersAll limits names s (es ++ e ∷ []) (tolds ++ told ∷ []) told.names now
+  AnswersAll-push names s [] [] between before e told now h grown answers = (
+    now,
+    subst (λ (n : List (List ℕ)). Extends n told.names) h.0 grown,
+    subst (λ (k : State). AnswersExpression limits told.names k e told.report now) h.1 answers,
+    (refl, refl),
+  )
+  AnswersAll-push names s (first ∷ es) (t ∷ tolds) between before e told now h grown answers = (
+    h.0,
+    h.1,
+    h.2,
+    AnswersAll-push t.names h.0 es tolds between before e told now h.3 grown answers,
+  )
+  AnswersAll-push names s [] (t ∷ tolds) between before e told now h grown answers = absurd h
+  AnswersAll-push names s (first ∷ es) [] between before e told now h grown answers = absurd h
 
-pub texts-push : (tolds : List Told) (told : Told) → texts (tolds ++ told ∷ []) ≡ texts tolds
-    ++ report_text told.names told.report
-texts-push tolds told =
-    flat_map-append (λ (t : Told). report_text t.names t.report) tolds (told ∷ [])
-    ∙ ap (λ (l : List ℕ). texts tolds ++ l) (append-nil (report_text told.names told.report))
+pub texts-push : (show : Show) (tolds : List Told) (told : Told)
+    → texts show (tolds ++ told ∷ [])
+    ≡ texts show tolds ++ report_text told.names show told.report
+texts-push show tolds told =
+    flat_map-append (λ (t : Told). report_text t.names show t.report) tolds (told ∷ [])
+    ∙ ap (λ (l : List ℕ). texts show tolds ++ l)
+    (append-nil (report_text told.names show told.report))
 
 pub all_proved-push : (tolds : List Told) (told : Told) → all_proved (tolds ++ told ∷ [])
     ≡ (all_proved tolds && is_proved_report told.report)

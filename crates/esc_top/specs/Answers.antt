@@ -7,7 +7,7 @@ use Rattle.esc_form.specs.declared.command.Command.{Command}
 use Rattle.esc_form.specs.Commands.{command}
 use Rattle.esc_answers.specs.Answers.{Answers, LacksMemory}
 use Rattle.esc_answers.specs.State.{State}
-use Rattle.esc_report.specs.declared.limits.Limits.{Limits}
+use Rattle.esc_options.specs.declared.options.Limits.{Limits}
 use Rattle.esc_report.specs.declared.report.Report.{Report}
 use Rattle.esc_report.specs.declared.report.Report.TheVariants as report
 use Rattle.esc_report.specs.declared.report.Refusal.TheVariants.{Form}

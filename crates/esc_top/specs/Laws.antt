@@ -1,20 +1,27 @@
--- Which status comes exactly where, and which goals are proved.
-use Rattle.std.specs.Prelude.{◌≡◌, ◌≤◌, ◌<◌, ◌↔◌, ◌⊎◌, ℕ, Bool, true, false, IsTrue, List, ◌∷◌, length, take, Option, Some, Ok}
+-- Which status comes exactly where, and what holds of the answers.
+use Rattle.std.specs.Prelude.{◌≡◌, ◌≤◌, ◌<◌, ◌↔◌, ◌⊎◌, ℕ, Bool, true, false, IsTrue, List, length}
+use Rattle.std.specs.Prelude.{take, Option, Some, Ok, Err}
+use Rattle.std.specs.List.{AllZip}
+use Rattle.esc_options.specs.declared.options.Limits.{Limits}
+use Rattle.esc_options.specs.declared.options.Options.{Options}
 use Rattle.esc_sexp.specs.declared.sexp.Sexp.{Sexp}
 use Rattle.esc_sexp.specs.declared.sexp.SexpFault.{SexpFault}
 use Rattle.esc_sexp.specs.Grammar.{Reads, broken, whole}
 use Rattle.esc_term.specs.declared.formula.Formula.{Formula}
-use Rattle.esc_term.specs.Refuted.{Refuted}
 use Rattle.esc_form.specs.declared.command.Kind.TheVariants.{Goal}
-use Rattle.esc_report.specs.Found.{base_of}
+use Rattle.esc_report.specs.Goals.{IsFreeGoal}
 use Rattle.esc_report.specs.Supported.{is_supported}
-use Rattle.esc_answers.specs.Laws.{IsProvedOrLacks}
+use Rattle.esc_answers.specs.Laws.{IsSharpOf, IsSoundOf}
+use Rattle.esc_words.specs.Uses.{Text}
+use Rattle.esc_words.specs.Words.{AsksFor}
+use Rattle.esc_words.specs.declared.read.WordsStop.TheVariants.{Bad}
 use Rattle.esc_top.specs.Answers.{ReadsAs}
 use Rattle.esc_top.specs.Ran.{Ran}
 use Rattle.esc_top.specs.Reading.{HasWhole, IsBrokenBehind, max_input}
 use Rattle.esc_top.specs.Told.{Told}
 use Rattle.esc_top.specs.declared.status.Status.{Status}
-use Rattle.esc_top.specs.declared.status.Status.TheVariants.{Proved, Answered, BadWords, Syntax, ReadFault, WriteFault, Memory, TooMuch}
+use Rattle.esc_top.specs.declared.status.Status.TheVariants.{Proved, Answered, BadWords, Syntax}
+use Rattle.esc_top.specs.declared.status.Status.TheVariants.{ReadFault, WriteFault, Memory, TooMuch}
 
 -- ---- statuses
 
@@ -41,13 +48,17 @@ abbrev pub AreTooMany : List ℕ → Type 0
 AreTooMany bytes =
     (es : List Sexp) × HasWhole (take max_input bytes) es × (max_input < length bytes)
 
+-- the words ask for something
+abbrev pub AreRight : List Text → Type 0
+AreRight words = (options : Options) × AsksFor words (Ok options)
+
 -- the words and the bytes call for the status
-abbrev pub IsDue : ℕ → List ℕ → Status → Type 0
-IsDue words bytes Proved = (words ≤ 1) × CanBeRead bytes
-IsDue words bytes Answered = (words ≤ 1) × CanBeRead bytes
-IsDue words bytes BadWords = 1 < words
-IsDue words bytes (Syntax fault) = (words ≤ 1) × BreaksIn bytes fault
-IsDue words bytes TooMuch = (words ≤ 1) × AreTooMany bytes
+abbrev pub IsDue : List Text → List ℕ → Status → Type 0
+IsDue words bytes Proved = AreRight words × CanBeRead bytes
+IsDue words bytes Answered = AreRight words × CanBeRead bytes
+IsDue words bytes BadWords = AsksFor words (Err Bad)
+IsDue words bytes (Syntax fault) = AreRight words × BreaksIn bytes fault
+IsDue words bytes TooMuch = AreRight words × AreTooMany bytes
 IsDue words bytes status = ⊥
 
 -- what the status says of the reading, where it plays no role what is answered
@@ -58,27 +69,41 @@ as_read status = status
 -- a run that nothing stops ends with the one status that is due
 abbrev pub StatusIsDue : Type 0
 StatusIsDue =
-    (words : ℕ) (bytes : List ℕ) (rest written now : Option (List ℕ)) (before after : ℕ)
-    (result : Status)
+    (words : List Text) (bytes : List ℕ) (rest written now : Option (List ℕ))
+    (before after : ℕ) (result : Status)
     → Ran words (Some bytes) rest written now before after result → is_stopped result ≡ false
     → (status : Status) → IsDue words bytes status ↔ (as_read status ≡ as_read result)
 
 -- ---- goals
 
--- where the expression is a goal of the kind that is answered, whose negation is refuted, it is
--- proved, or memory is wanting
-abbrev pub IsComplete : Sexp → Told → Type 0
-IsComplete e told = (place : ℕ) (goal : Formula)
-    → ReadsAs told.names e (Ok (record { place = place; kind = Goal goal }))
-    → IsTrue (is_supported goal) → Refuted (base_of goal) → IsProvedOrLacks told.report
+-- the expression reads as this goal, by the names of its report
+abbrev pub IsGoal : Sexp → Told → Formula → Type 0
+IsGoal e told goal =
+    (place : ℕ) × ReadsAs told.names e (Ok (record { place = place; kind = Goal goal }))
+
+-- where the expression is a goal of the kind that is answered, and is said to be valid, its
+-- negation is refuted
+abbrev pub IsSoundAt : Sexp → Told → Type 0
+IsSoundAt e told = (goal : Formula) → IsGoal e told goal → IsTrue (is_supported goal)
+    → IsSoundOf goal told.report
+
+-- where it is one without arithmetic, it is said to be valid just where its negation is refuted,
+-- unless memory or splits are wanting
+abbrev pub IsSharpAt : Limits → Sexp → Told → Type 0
+IsSharpAt limits e told = (goal : Formula) → IsGoal e told goal → IsFreeGoal goal
+    → IsSharpOf goal limits told.report
 
 -- so it is with each expression and its report
-abbrev pub AreComplete : List Sexp → List Told → Type 0
-AreComplete (e ∷ es) (told ∷ more) = IsComplete e told × AreComplete es more
-AreComplete es told = Unit {0}
-
-abbrev pub RunsAreComplete : Type 0
-RunsAreComplete =
-    (words : ℕ) (left rest written now : Option (List ℕ)) (before after : ℕ) (result : Status)
+abbrev pub RunsAreSound : Type 0
+RunsAreSound =
+    (words : List Text) (left rest written now : Option (List ℕ)) (before after : ℕ)
+    (result : Status)
     → (ran : Ran words left rest written now before after result)
-    → AreComplete ran.progress.expressions ran.progress.told
+    → AllZip IsSoundAt ran.progress.expressions ran.progress.told
+
+abbrev pub RunsAreSharp : Type 0
+RunsAreSharp =
+    (words : List Text) (left rest written now : Option (List ℕ)) (before after : ℕ)
+    (result : Status)
+    → (ran : Ran words left rest written now before after result)
+    → AllZip (IsSharpAt ran.options.limits) ran.progress.expressions ran.progress.told

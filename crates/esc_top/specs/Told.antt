@@ -4,7 +4,8 @@ use Rattle.std.specs.List.{flat_map, list_all}
 use Rattle.esc_sexp.specs.declared.sexp.Sexp.{Sexp}
 use Rattle.esc_read.specs.Reading.{Extends}
 use Rattle.esc_answers.specs.State.{State}
-use Rattle.esc_report.specs.declared.limits.Limits.{Limits}
+use Rattle.esc_options.specs.declared.options.Limits.{Limits}
+use Rattle.esc_options.specs.declared.options.Show.{Show}
 use Rattle.esc_report.specs.declared.report.Report.{Report}
 use Rattle.esc_report.specs.declared.report.Report.TheVariants as report
 use Rattle.esc_report.specs.Text.{report_text}
@@ -28,12 +29,12 @@ AnswersAll limits names s [] (told ∷ more) names_now s_now = ⊥
 AnswersAll limits names s (e ∷ es) [] names_now s_now = ⊥
 
 -- what is written of the reports
-abbrev pub texts : List Told → List ℕ
-texts = flat_map (λ told. report_text told.names told.report)
+abbrev pub texts : Show → List Told → List ℕ
+texts show = flat_map (λ told. report_text told.names show told.report)
 
 -- a goal was proved, or a command was carried out
 abbrev pub is_proved_report : Report → Bool
-is_proved_report (report.Valid goal formulas) = true
+is_proved_report (report.Valid goal log formulas) = true
 is_proved_report report.Done = true
 is_proved_report r = false
 

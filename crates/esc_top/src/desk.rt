@@ -1,41 +1,36 @@
 //! Answers expressions one by one.
 
-ghost use Rattle.std.specs.Prelude.{◌≡◌, ◌+◌, ◌<◌, ◌≤◌, ◌^◌, ℕ, true, IfOk, IsTrue};
+ghost use Rattle.std.specs.Prelude.{◌≡◌, ◌+◌, ◌<◌, ◌≤◌, ◌^◌, true, IfOk, IsTrue};
 ghost use Rattle.esc_io.specs.Faults.{HasCause};
-ghost use Rattle.esc_answers.specs.Answers.{AnswersGoal, AnswersKind};
+ghost use Rattle.esc_answers.specs.Answers.{AnswersKind};
 ghost use Rattle.esc_form.specs.Laws.{IsClosedKind};
 ghost use Rattle.esc_form.specs.declared.command.Kind.TheVariants as kind;
 ghost use Rattle.esc_names.specs.Numbering.{first_names};
 ghost use Rattle.esc_names.specs.Rows.{HasDistinctRows};
 ghost use Rattle.esc_read.specs.Reading.{Extends};
-ghost use Rattle.esc_report.specs.Found.{base_of};
-ghost use Rattle.esc_report.specs.Supported.{is_supported};
+ghost use Rattle.esc_report.specs.Text.{HasEachFormula};
 ghost use Rattle.esc_term.specs.Formula.{is_closed};
 ghost use Rattle.esc_top.specs.Answers.{AnswersExpression};
-ghost use Rattle.esc_top.specs.Progress.{limits_of_run};
 ghost use Rattle.esc_top.specs.Told.{is_proved_report};
 ghost use Rattle.esc_top.specs.Underway.{AnswersOne, state_of};
 
+use crate::deciding::report_of;
 use esc_form::{FormStop, Kind, read_command, reading_laws};
 use esc_io::{Failed, Sink};
 use esc_names::Names;
-use esc_plain::{Verdict, decide};
+use esc_options::Options;
 use esc_read::place_of;
-use esc_report::{Limits, Refusal, Report, is_supported, put_report};
+use esc_report::{Refusal, Report, is_supported, put_report};
 use esc_sexp::Sexp;
-use esc_term::{Formula, Formulas};
-use sqlite_items::{Boxed, Items};
+use esc_term::Formula;
 use std::alloc::{AllocError, Global};
-
-/// How far each search goes.
-const LIMITS: Limits = Limits {
-    open_splits: 10_000,
-};
 
 /// What is kept from one expression to the next.
 #[derive(Drop)]
 pub struct Desk {
     alloc: Global,
+    /// How far each search goes, and what is printed beside the answers.
+    pub options: Options,
     /// The names that were used so far.
     pub names: Names,
     /// How many goals were counted so far.
@@ -50,33 +45,9 @@ fn is_proved_report(report: &Report) -> bool
     matches!(report, Report::Valid { .. } | Report::Done)
 }
 
-// The negated goal alone.
-fn negated(alloc: Global, goal: Formula) -> Result<Formulas, AllocError>
-    ensures { IfOk result (λ formulas. formulas ≡ base_of goal) }
-{
-    let mut formulas = Items::new(alloc);
-    formulas.push(Formula::Not(Boxed::new(alloc, goal)?))?;
-    Ok(formulas)
-}
-
-// The report on the goal with this number.
-fn report_of(alloc: Global, goal: u64, formula: Formula) -> Result<Report, AllocError>
-    requires closed { IsTrue (is_closed formula) }
-    requires supported { IsTrue (is_supported formula) }
-    ensures { IfOk result (λ report. (place : ℕ)
-        → AnswersGoal limits_of_run formula goal place report) }
-{
-    match decide(alloc, &formula, LIMITS)? {
-        Verdict::Refuted => Ok(Report::Valid {
-            goal,
-            formulas: negated(alloc, formula)?,
-        }),
-        Verdict::Open(found) => Ok(Report::Invalid { goal, found }),
-    }
-}
-
 impl Desk {
-    pub fn new(alloc: Global) -> Result<Desk, AllocError>
+    pub fn new(alloc: Global, options: Options) -> Result<Desk, AllocError>
+        ensures options { IfOk result (λ desk. desk.options ≡ options) }
         ensures names { IfOk result (λ desk. desk.names ≡ first_names) }
         ensures goals { IfOk result (λ desk. desk.goals ≡ 0) }
         ensures clean { IfOk result (λ desk. desk.all_proved ≡ true) }
@@ -84,6 +55,7 @@ impl Desk {
         let names = Names::new(alloc)?;
         Ok(Desk {
             alloc,
+            options,
             names,
             goals: 0,
             all_proved: true,
@@ -94,8 +66,10 @@ impl Desk {
     fn answer_goal(&mut self, formula: Formula, place: u64) -> Report
         requires few { self.old.goals < 2 ^ 63 }
         requires closed { IsTrue (is_closed formula) }
-        ensures answers { AnswersKind limits_of_run (state_of self.old) place (kind.Goal formula)
-            result (state_of self.new) }
+        ensures answers { AnswersKind self.old.options.limits (state_of self.old) place
+            (kind.Goal formula) result (state_of self.new) }
+        ensures formulas { HasEachFormula result }
+        ensures options { self.new.options ≡ self.old.options }
         ensures names { self.new.names ≡ self.old.names }
         ensures counted { self.new.goals ≤ self.old.goals + 1 }
         ensures clean { self.new.all_proved ≡ self.old.all_proved }
@@ -106,7 +80,7 @@ impl Desk {
         }
         self.goals += 1;
         let goal = self.goals;
-        match report_of(self.alloc, goal, formula) {
+        match report_of(self.alloc, self.options.limits, goal, formula) {
             Ok(report) => report,
             Err(_) => Report::Memory {
                 goal: Some(goal),
@@ -119,8 +93,10 @@ impl Desk {
     fn answer_command(&mut self, kind: Kind, place: u64) -> Report
         requires few { self.old.goals < 2 ^ 63 }
         requires closed { IsClosedKind kind }
-        ensures answers { AnswersKind limits_of_run (state_of self.old) place kind
+        ensures answers { AnswersKind self.old.options.limits (state_of self.old) place kind
             result (state_of self.new) }
+        ensures formulas { HasEachFormula result }
+        ensures options { self.new.options ≡ self.old.options }
         ensures names { self.new.names ≡ self.old.names }
         ensures counted { self.new.goals ≤ self.old.goals + 1 }
         ensures clean { self.new.all_proved ≡ self.old.all_proved }
@@ -137,8 +113,10 @@ impl Desk {
 
     fn answer(&mut self, sexp: &Sexp) -> Report
         requires few { self.old.goals < 2 ^ 63 }
-        ensures answers { AnswersExpression limits_of_run self.new.names (state_of self.old)
-            sexp.now result (state_of self.new) }
+        ensures answers { AnswersExpression self.old.options.limits self.new.names
+            (state_of self.old) sexp.now result (state_of self.new) }
+        ensures formulas { HasEachFormula result }
+        ensures options { self.new.options ≡ self.old.options }
         ensures names { Extends self.old.names self.new.names }
         ensures distinct { HasDistinctRows self.new.names }
         ensures counted { self.new.goals ≤ self.old.goals + 1 }
@@ -169,6 +147,6 @@ impl Desk {
     {
         let report = self.answer(sexp);
         self.all_proved = self.all_proved && is_proved_report(&report);
-        put_report(&report, &self.names, sink)
+        put_report(&report, &self.names, self.options.show, sink)
     }
 }

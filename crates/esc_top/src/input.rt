@@ -1,12 +1,16 @@
 //! Reads commands piece by piece and answers each as soon as it is whole.
 
-ghost use Rattle.std.specs.Prelude.{◌≡◌, ◌+◌, ◌<◌, ◌≤◌, ◌^◌, ℕ, List, [], Option, Ok, length, false, true, Some, None};
+ghost use Rattle.std.specs.Prelude.{◌≡◌, ◌+◌, ◌<◌, ◌≤◌, ◌^◌, ℕ, List, [], Option, Ok, length};
+ghost use Rattle.std.specs.Prelude.{false, true, None};
 ghost use Rattle.esc_io.specs.Faults.{HasCause};
-ghost use Rattle.esc_top.specs.Underway.{Came, EndsByCount, Feeds, IsToldByCount, Stops, StopsByCount, Underway, status_at};
+ghost use Rattle.esc_options.specs.declared.options.Options.{Options as Asked};
+ghost use Rattle.esc_top.specs.Underway.{Came, EndsByCount, Feeds, IsToldByCount, Stops};
+ghost use Rattle.esc_top.specs.Underway.{StopsByCount, Underway, status_at};
 
 use crate::desk::Desk;
 use crate::status::Status;
 use esc_io::{Failed, Sink, Source};
+use esc_options::Options;
 use esc_sexp::{ReadStop, Reader, reading_laws};
 use std::alloc::Global;
 
@@ -40,9 +44,9 @@ pub enum Feeding {
 fn answer_whole<K: Sink>(reader: &mut Reader, desk: &mut Desk, sink: &mut K) -> Result<Stop, Failed>
     requires few { desk.old.goals ≤ reader.old.place }
     requires small { reader.old.place + length reader.old.bytes < 2 ^ 63 }
-    ensures told { (left rest written : Option (List ℕ))
-        → Underway left rest written (K.written sink.old) reader.old desk.old
-        → Stops left rest written (K.written sink.new) reader.new desk.new result }
+    ensures told { (options : Asked) (left rest written : Option (List ℕ))
+        → Underway options left rest written (K.written sink.old) reader.old desk.old
+        → Stops options left rest written (K.written sink.new) reader.new desk.new result }
     ensures few { desk.new.goals ≤ reader.new.place }
     ensures end { reader.new.place + length reader.new.bytes
         ≡ reader.old.place + length reader.old.bytes }
@@ -116,9 +120,11 @@ fn answer_pieces<S: Source, K: Sink>(
     requires few { desk.old.goals ≤ reader.old.place }
     requires begins { reader.old
         ≡ record { place = 0; bytes = []; finished = false; fault = None } }
-    ensures told { (left written : Option (List ℕ))
-        → Underway left (S.left source.old) written (K.written sink.old) reader.old desk.old
-        → Stops left (S.left source.new) written (K.written sink.new) reader.new desk.new result }
+    ensures told { (options : Asked) (left written : Option (List ℕ))
+        → Underway options left (S.left source.old) written (K.written sink.old) reader.old
+        desk.old
+        → Stops options left (S.left source.new) written (K.written sink.new) reader.new desk.new
+        result }
     ensures few { desk.new.goals ≤ reader.new.place }
     ensures small { reader.new.place + length reader.new.bytes < 2 ^ 63 }
     ensures ended { result ≡ Ok Stop.Hungry → reader.new.finished ≡ true }
@@ -143,18 +149,20 @@ fn answer_pieces<S: Source, K: Sink>(
     answer_whole(reader, desk, sink)
 }
 
-/// Answers the whole input, or what comes before it is given up, and tells how it ended.
+/// Answers the whole input by the options, or what comes before it is given up, and tells how it
+/// ended.
 pub fn answer_input<S: Source, K: Sink>(
     alloc: Global,
+    options: Options,
     source: &mut S,
     sink: &mut K,
 ) -> Result<Status, Failed>
-    ensures told { Came (S.left source.old) (S.left source.new)
+    ensures told { Came options (S.left source.old) (S.left source.new)
         (K.written sink.old) (K.written sink.new) result }
     ensures cause { HasCause (K.faults sink.old) (K.faults sink.new) result }
     ensures reads { EndsByCount result (S.faults source.old) (S.faults source.new) }
 {
-    let Ok(mut desk) = Desk::new(alloc) else {
+    let Ok(mut desk) = Desk::new(alloc, options) else {
         return Ok(Status::Memory);
     };
     let Ok(mut piece) = Vec::from_elem(alloc, 0u8, PIECE) else {

@@ -1,14 +1,18 @@
 //! What holds of runs. The function states it, and does nothing.
 
-ghost use Rattle.esc_top.specs.Laws.{RunsAreComplete, StatusIsDue};
+ghost use Rattle.esc_top.specs.Laws.{RunsAreSharp, RunsAreSound, StatusIsDue};
 
 use esc_answers::answer_laws;
 
 /// Where no fault and no want of memory stops a run, it ends with the one status for which words
-/// and bytes call; and a goal whose negation is refuted is proved, or memory is wanting.
+/// and bytes call. A goal is said to be valid only where its negation is refuted. Where it has no
+/// arithmetic but small numerals, it is also said to be invalid only where its negation is not
+/// refuted, and a search for it stops only where the words allow fewer splits than its occurrences
+/// can need.
 pub fn run_laws()
     ensures status { StatusIsDue }
-    ensures complete { RunsAreComplete }
+    ensures sound { RunsAreSound }
+    ensures sharp { RunsAreSharp }
 {
     answer_laws();
     esc_form::reading_laws();

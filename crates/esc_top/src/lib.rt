@@ -2,6 +2,7 @@
 //! a sink.
 #![tactic(auto)]
 
+mod deciding;
 mod desk;
 mod input;
 mod laws;

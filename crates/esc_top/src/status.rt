@@ -3,7 +3,8 @@
 ghost use Rattle.std.specs.Prelude.{◌≡◌, ◌++◌};
 ghost use Rattle.esc_io.specs.Putting.{Delivers};
 ghost use Rattle.esc_top.specs.Codes.{code_of};
-ghost use Rattle.esc_top.specs.LastLine.{fault_line, fault_opening, kind_line, kind_text, last_line};
+ghost use Rattle.esc_top.specs.LastLine.{fault_line, fault_opening, kind_line, kind_text};
+ghost use Rattle.esc_top.specs.LastLine.{last_line, usage_line};
 
 use esc_io::{Failed, Sink, put_all};
 use esc_sexp::{SexpFault, SexpKind};
@@ -98,13 +99,23 @@ fn put_fault<K: Sink>(fault: SexpFault, sink: &mut K) -> Result<(), Failed>
     put_kind(fault.kind, sink)
 }
 
+// How the program is called.
+#[tactic(auto, unfolding(crate::specs::LastLine::usage_line))]
+fn put_usage<K: Sink>(sink: &mut K) -> Result<(), Failed>
+    ensures { Delivers K.written K.faults sink.old sink.new result usage_line }
+{
+    let usage = b"usage: simplify [--log] [--model] [--depth N] [--rounds N] [--facts N] \
+        [--splits N] [--pivots N]\n";
+    put_all(sink, usage)
+}
+
 /// Writes the last line.
 pub fn put_last_line<K: Sink>(status: Status, sink: &mut K) -> Result<(), Failed>
     ensures { Delivers K.written K.faults sink.old sink.new result (last_line status) }
 {
     match status {
         Status::Proved | Status::Answered | Status::WriteFault => put_all(sink, b""),
-        Status::BadWords => put_all(sink, b"usage: simplify\n"),
+        Status::BadWords => put_usage(sink),
         Status::Syntax(fault) => put_fault(fault, sink),
         Status::ReadFault => put_all(sink, b"Read fault.\n"),
         Status::Memory => put_all(sink, b"Out of memory.\n"),

@@ -1,17 +1,19 @@
 //! The call that does all that the program does.
 
-ghost use Rattle.std.specs.Prelude.{◌≡◌, ◌≢◌, ◌<◌, ◌≤◌, length};
+ghost use Rattle.std.specs.Prelude.{◌≡◌, ◌≢◌, map, string_bytes};
+ghost use Rattle.std.specs.List.{AllZip};
 ghost use Rattle.esc_io.specs.Faults.{HasCause, Rose};
 ghost use Rattle.esc_io.specs.Putting.{Delivers};
 ghost use Rattle.esc_top.specs.LastLine.{last_line};
-ghost use Rattle.esc_top.specs.Laws.{AreComplete};
+ghost use Rattle.esc_top.specs.Laws.{IsSharpAt, IsSoundAt};
 ghost use Rattle.esc_top.specs.Ran.{Ran};
-ghost use Rattle.esc_top.specs.Underway.{Came, EndsByCount, IsUnread};
+ghost use Rattle.esc_top.specs.Underway.{EndsByCount, Meets};
 
 use crate::input::answer_input;
 use crate::laws::run_laws;
 use crate::status::{Status, put_last_line};
 use esc_io::{Failed, Sink, Source};
+use esc_words::{WordsStop, read_words};
 use std::alloc::Global;
 
 // Writes the last line and sees that it goes on its way.
@@ -22,31 +24,28 @@ fn finish<K: Sink>(status: Status, sink: &mut K) -> Result<(), Failed>
     sink.flush()
 }
 
-// Answers the input, where there are no words behind the program's name.
+// Reads the words and answers the input as they ask.
 fn answer<S: Source, K: Sink>(
     alloc: Global,
     words: &[String],
     source: &mut S,
     sink: &mut K,
 ) -> Result<Status, Failed>
-    ensures unread { 1 < length words.now
-        → IsUnread (S.left source.old) (S.left source.new) (K.written sink.old)
-        (K.written sink.new) result }
-    ensures told { length words.now ≤ 1
-        → Came (S.left source.old) (S.left source.new) (K.written sink.old)
-        (K.written sink.new) result }
+    ensures meets { Meets (map string_bytes words.now) (S.left source.old) (S.left source.new)
+        (K.written sink.old) (K.written sink.new) result }
     ensures cause { HasCause (K.faults sink.old) (K.faults sink.new) result }
     ensures reads { EndsByCount result (S.faults source.old) (S.faults source.new) }
 {
-    if words.len() > 1 {
-        return Ok(Status::BadWords);
+    match read_words(alloc, words) {
+        Ok(options) => answer_input(alloc, options, source, sink),
+        Err(WordsStop::Bad) => Ok(Status::BadWords),
+        Err(WordsStop::Memory) => Ok(Status::Memory),
     }
-    answer_input(alloc, source, sink)
 }
 
-/// Reads commands from the source up to its end, and writes the answers to the sink in order. The
-/// words are those of the command line, of which the first is the program's name. No others are
-/// understood: where there are more, nothing is read.
+/// Reads commands from the source up to its end, and writes the answers to the sink in order, as the
+/// words ask. These are the words of the command line, of which the first is the program's name.
+/// Where they ask for nothing, or memory is wanting to read them, nothing is read.
 ///
 /// Which status comes exactly where is one of the laws of runs. Each answer is written and flushed
 /// before more is read, and the sink is flushed at the end; no clause says so. Where source or sink
@@ -58,15 +57,22 @@ pub fn run<S: Source, K: Sink>(
     sink: &mut K,
 ) -> Status
     // Each expression is answered in order.
-    ensures ran { Ran (length words.now) (S.left source.old) (S.left source.new)
+    ensures ran { Ran (map string_bytes words.now) (S.left source.old) (S.left source.new)
         (K.written sink.old) (K.written sink.new)
         (S.faults source.old) (S.faults source.new) result }
 
-    // A goal whose negation is refuted is proved, or memory is wanting.
-    ensures complete { (ran : Ran (length words.now) (S.left source.old) (S.left source.new)
-        (K.written sink.old) (K.written sink.new)
+    // A goal is said to be valid only where its negation is refuted.
+    ensures sound { (ran : Ran (map string_bytes words.now) (S.left source.old)
+        (S.left source.new) (K.written sink.old) (K.written sink.new)
         (S.faults source.old) (S.faults source.new) result)
-        → AreComplete ran.progress.expressions ran.progress.told }
+        → AllZip IsSoundAt ran.progress.expressions ran.progress.told }
+
+    // A goal without arithmetic is said to be valid just where its negation is refuted, unless
+    // memory or splits are wanting.
+    ensures sharp { (ran : Ran (map string_bytes words.now) (S.left source.old)
+        (S.left source.new) (K.written sink.old) (K.written sink.new)
+        (S.faults source.old) (S.faults source.new) result)
+        → AllZip (IsSharpAt ran.options.limits) ran.progress.expressions ran.progress.told }
 
     // A fault is told only where source or sink had one. A fault of the sink is always told, and
     // one of the source unless the sink fails behind it.

@@ -56,11 +56,20 @@ fn the_first_goal(rt: HostRuntime) -> Result<(), Fail> {
     Ok(())
 }
 
-#[test]
-fn words_that_are_not_understood(rt: HostRuntime) -> Result<(), Fail> {
-    let alloc = rt.alloc();
+/// The program's name and the words behind it.
+fn words_of(alloc: Global, behind: &[&str]) -> Result<Vec<String>, Fail> {
     let mut words = Vec::new(alloc);
     words.push(String::from_str(alloc, "simplify")?)?;
+    for word in behind {
+        words.push(String::from_str(alloc, word)?)?;
+    }
+    Ok(words)
+}
+
+#[test]
+fn words_that_ask_for_something(rt: HostRuntime) -> Result<(), Fail> {
+    let alloc = rt.alloc();
+    let words = words_of(alloc, &[])?;
     assert!(rt;
         runs(
             alloc,
@@ -70,10 +79,30 @@ fn words_that_are_not_understood(rt: HostRuntime) -> Result<(), Fail> {
             0
         )?
     );
-    words.push(String::from_str(alloc, "--log")?)?;
+    let words = words_of(alloc, &["--log", "--depth=0"])?;
+    assert!(rt;
+        runs(
+            alloc,
+            &Way::new(&words, 4096),
+            b"(EQ a a)",
+            b"Facts:\n  0 goal: (NEQ a a)\n1: Valid.\n",
+            0
+        )?
+    );
+    Ok(())
+}
+
+const USAGE: &[u8] =
+    b"usage: simplify [--log] [--model] [--depth N] [--rounds N] [--facts N] \
+    [--splits N] [--pivots N]\n";
+
+#[test]
+fn words_that_ask_for_nothing(rt: HostRuntime) -> Result<(), Fail> {
+    let alloc = rt.alloc();
+    let words = words_of(alloc, &["--depth", "10"])?;
     let mut unread = Way::new(&words, 4096);
     unread.failing_reads = &[0];
-    assert!(rt; runs(alloc, &unread, b"(EQ a a)", b"usage: simplify\n", 2)?);
+    assert!(rt; runs(alloc, &unread, b"(EQ a a)", USAGE, 2)?);
     let mut unwritten = Way::new(&words, 4096);
     unwritten.failing_writes = &[0];
     assert!(rt; runs(alloc, &unwritten, b"(EQ a a)", b"", 5)?);

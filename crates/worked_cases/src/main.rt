@@ -1,8 +1,9 @@
 //! Whole runs from a table.
 //!
-//! The standard input has inputs, each up to a line of `====`. Each is run over memory in one
-//! piece, in pieces of one byte and in pieces of seven. What the runs write is printed, and the
-//! code that they end with; or that they differ.
+//! The standard input has inputs, each up to a line of `====`. The first line of an input has the
+//! words of the call, with single blanks between them; the rest are the commands. Each input is run
+//! over memory in one piece, in pieces of one byte and in pieces of seven. What the runs write is
+//! printed, and the code that they end with; or that they differ.
 #![tactic(auto)]
 
 ghost use Rattle.std.specs.Prelude.{◌≤◌, length, IfSome};
@@ -16,6 +17,13 @@ use std::alloc::{AllocError, Global};
 /// What stands between two inputs.
 const END: &[u8] = b"\n====\n";
 
+/// What the runs of an input are called with.
+#[derive(Drop)]
+struct Call<'a> {
+    words: Vec<String>,
+    commands: &'a [u8],
+}
+
 /// What a run wrote, and the code that it ended with.
 #[derive(Drop)]
 struct Outcome {
@@ -23,13 +31,43 @@ struct Outcome {
     code: u8,
 }
 
-/// Runs an input that is read in pieces of so many bytes.
-fn run_in_pieces(alloc: Global, input: &[u8], piece: usize) -> Result<Outcome, AllocError>
+/// The words of a command line, of which the first is the program's name.
+fn words_of(alloc: Global, line: &[u8]) -> Result<Vec<String>, AllocError> {
+    let mut words = Vec::new(alloc);
+    words.push(String::from_str(alloc, "simplify")?)?;
+    if line.is_empty() {
+        return Ok(words);
+    }
+    'words: for word in line.split(|byte| *byte == b' ') {
+        words.push(String::from_utf8_lossy(alloc, word)?)?;
+    }
+    Ok(words)
+}
+
+/// The first line of an input, and what stands behind it.
+fn parted(input: &[u8]) -> (&[u8], &[u8]) {
+    'places: for place in 0..input.len() {
+        if input[place] == b'\n' {
+            return (&input[..place], &input[place + 1..]);
+        }
+    }
+    (input, b"")
+}
+
+fn call_of(alloc: Global, input: &[u8]) -> Result<Call<'_>, AllocError> {
+    let (line, commands) = parted(input);
+    let words = words_of(alloc, line)?;
+    Ok(Call { words, commands })
+}
+
+/// Runs a call whose commands are read in pieces of so many bytes.
+fn run_in_pieces(alloc: Global, call: &Call, piece: usize) -> Result<Outcome, AllocError>
     requires { 1 ≤ piece }
 {
-    let mut source = MemSource::new(Items::from_slice(alloc, input)?, piece, Items::new(alloc));
+    let commands = Items::from_slice(alloc, call.commands)?;
+    let mut source = MemSource::new(commands, piece, Items::new(alloc));
     let mut sink = MemSink::new(alloc, ROOM, Items::new(alloc))?;
-    let status = run(alloc, &[], &mut source, &mut sink);
+    let status = run(alloc, call.words.as_slice(), &mut source, &mut sink);
     Ok(Outcome {
         output: Vec::from_slice(alloc, sink.bytes())?,
         code: status.code(),
@@ -43,9 +81,10 @@ fn are_alike(left: &Outcome, right: &Outcome) -> bool {
 
 /// Adds what the runs of an input come to.
 fn add_outcome(alloc: Global, input: &[u8], lines: &mut Vec<u8>) -> Result<(), AllocError> {
-    let whole = run_in_pieces(alloc, input, ROOM)?;
-    let single = run_in_pieces(alloc, input, 1)?;
-    let few = run_in_pieces(alloc, input, 7)?;
+    let call = call_of(alloc, input)?;
+    let whole = run_in_pieces(alloc, &call, ROOM)?;
+    let single = run_in_pieces(alloc, &call, 1)?;
+    let few = run_in_pieces(alloc, &call, 7)?;
     lines.extend_from_slice(whole.output.as_slice())?;
     if !are_alike(&whole, &single) || !are_alike(&whole, &few) {
         lines.extend_from_slice(b"the runs differ\n")?;

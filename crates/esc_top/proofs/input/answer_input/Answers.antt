@@ -2,34 +2,38 @@ use Rattle.std.proofs.Common.{Ok, ap, subst, sym}
 use Rattle.esc_io.specs.declared.faults.Failed.{Failed}
 use Rattle.esc_top.specs.Underway.{EndsByCount, Reached}
 use Rattle.esc_top.specs.declared.status.Status.{Status}
-use Rattle.esc_top.proofs.UnderwayLemmas.{came_broken, count_at, reached_at, reached_at_once, underway_start}
+use Rattle.esc_top.proofs.UnderwayLemmas.{came_broken, count_at, reached_at, reached_at_once}
+use Rattle.esc_top.proofs.UnderwayLemmas.{underway_start}
 use Rattle.esc_top.proofs.input.answer_input.Goals as goal
 
 pub returns-in_default-clause-told : goal.returns-in_default-clause-told
-returns-in_default-clause-told g c = reached_at_once (g.S.Source.left c.args.source.now)
+returns-in_default-clause-told g c = reached_at_once c.args.options (g.S.Source.left c.args.source.now)
     (g.K.Sink.written c.args.sink.now)
 
 pub returns-in_default-from_elem-clause-told : goal.returns-in_default-from_elem-clause-told
-returns-in_default-from_elem-clause-told g c = reached_at_once (g.S.Source.left c.args.source.now)
+returns-in_default-from_elem-clause-told g c = reached_at_once c.args.options (g.S.Source.left c.args.source.now)
     (g.K.Sink.written c.args.sink.now)
 
 pub returns-in_err-stop-clause-told : goal.returns-in_err-stop-clause-told
 returns-in_err-stop-clause-told g c =
     came_broken c.from_residual.result c.from_residual.ensures.0
-    (c.in_err-stop.ensures.told (g.S.Source.left c.args.source.now)
+    (c.in_err-stop.ensures.told c.args.options (g.S.Source.left c.args.source.now)
     (g.K.Sink.written c.args.sink.now)
-    (underway_start (g.S.Source.left c.args.source.now) (g.K.Sink.written c.args.sink.now)
-    c.new-reader.result c.in-Ok.desk c.new-reader.ensures
+    (underway_start c.args.options (g.S.Source.left c.args.source.now)
+    (g.K.Sink.written c.args.sink.now)
+    c.new-reader.result c.in-Ok.desk c.new-reader.ensures c.in-Ok.ensures.options
     c.in-Ok.ensures.names c.in-Ok.ensures.goals c.in-Ok.ensures.clean))
 
 pub returns-clause-told : goal.returns-clause-told
 returns-clause-told g c =
     let left = g.S.Source.left c.args.source.now in
     let written = g.K.Sink.written c.args.sink.now in
-    let stops = c.in_ok-stop.ensures.told left written
-    (underway_start left written c.new-reader.result c.in-Ok.desk c.new-reader.ensures
-    c.in-Ok.ensures.names c.in-Ok.ensures.goals c.in-Ok.ensures.clean) in
-    subst (λ (status : Status). Reached left (g.S.Source.left c.answer_pieces.new.source) written
+    let options = c.args.options in
+    let stops = c.in_ok-stop.ensures.told options left written
+    (underway_start options left written c.new-reader.result c.in-Ok.desk c.new-reader.ensures
+    c.in-Ok.ensures.options c.in-Ok.ensures.names c.in-Ok.ensures.goals c.in-Ok.ensures.clean) in
+    subst (λ (status : Status). Reached options left
+    (g.S.Source.left c.answer_pieces.new.source) written
     (g.K.Sink.written c.answer_pieces.new.sink) status) (sym c.status_at.ensures)
     (reached_at Failed c.answer_pieces.new.reader c.answer_pieces.new.desk c.in_ok-stop.stop
     (λ hungry. c.in_ok-stop.ensures.ended (ap Ok hungry)) stops)

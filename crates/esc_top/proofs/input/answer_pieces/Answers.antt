@@ -3,15 +3,18 @@ use Rattle.esc_io.specs.declared.faults.Failed.{Failed}
 use Rattle.esc_sexp.specs.Unread.{Unread}
 use Rattle.esc_top.specs.Ran.{IsCounted}
 use Rattle.esc_top.specs.Underway.{StopsByCount}
-use Rattle.esc_top.proofs.UnderwayLemmas.{broken_flush, ended_count, reached_read_fault, reached_too_much, reached_unfed, stops_broken, stops_ended, stops_hungry, underway_fed, underway_finished, underway_flushed}
+use Rattle.esc_top.proofs.UnderwayLemmas.{broken_flush, ended_count, reached_read_fault}
+use Rattle.esc_top.proofs.UnderwayLemmas.{reached_too_much, reached_unfed, stops_broken}
+use Rattle.esc_top.proofs.UnderwayLemmas.{stops_ended, stops_hungry, underway_fed}
+use Rattle.esc_top.proofs.UnderwayLemmas.{underway_finished, underway_flushed}
 use Rattle.esc_top.proofs.input.answer_pieces.Goals as goal
 
 pub returns-in-Ended-clause-told : goal.returns-in-Ended-clause-told
-returns-in-Ended-clause-told g c = λ left written h.
+returns-in-Ended-clause-told g c = λ options left written h.
     stops_ended Failed c.answer_whole.new.reader c.answer_whole.new.desk c.in_ok-status.field-0
     c.in-Ended.status c.in-Ended.is
-    (c.in_ok-status.ensures.told left (g.S.Source.left c.pieces.source) written
-    (c.pieces.invariant.told left written h))
+    (c.in_ok-status.ensures.told options left (g.S.Source.left c.pieces.source) written
+    (c.pieces.invariant.told options left written h))
 
 pub returns-in-Ended-clause-reads : goal.returns-in-Ended-clause-reads
 returns-in-Ended-clause-reads g c =
@@ -21,11 +24,11 @@ returns-in-Ended-clause-reads g c =
     (c.in_ok-status.ensures.reads count))
 
 pub returns-in_err-flush-clause-told : goal.returns-in_err-flush-clause-told
-returns-in_err-flush-clause-told g c = λ left written h.
+returns-in_err-flush-clause-told g c = λ options left written h.
     let now = stops_hungry Failed c.answer_whole.new.reader c.answer_whole.new.desk
     c.in_ok-status.field-0 c.in_default.is
-    (c.in_ok-status.ensures.told left (g.S.Source.left c.pieces.source) written
-    (c.pieces.invariant.told left written h)) in
+    (c.in_ok-status.ensures.told options left (g.S.Source.left c.pieces.source) written
+    (c.pieces.invariant.told options left written h)) in
     stops_broken c.answer_whole.new.reader c.answer_whole.new.desk
     c.from_residual-in_err-flush.result c.from_residual-in_err-flush.ensures.0
     (broken_flush c.answer_whole.new.reader c.answer_whole.new.desk now.0
@@ -40,11 +43,11 @@ pieces-preserved g c =
     let place : c.feed_piece.new.reader.place ≡ c.answer_whole.new.reader.place = ap
     (λ (u : Unread). u.place) fed.5 in
     record {
-      told = λ left written h.
+      told = λ options left written h.
           let now = stops_hungry Failed c.answer_whole.new.reader c.answer_whole.new.desk
           c.in_ok-status.field-0 c.in_default.is
-          (c.in_ok-status.ensures.told left (g.S.Source.left c.pieces.source) written
-          (c.pieces.invariant.told left written h)) in
+          (c.in_ok-status.ensures.told options left (g.S.Source.left c.pieces.source) written
+          (c.pieces.invariant.told options left written h)) in
           underway_fed c.answer_whole.new.reader c.feed_piece.new.reader
           c.answer_whole.new.desk fed.0
           (underway_flushed now.0 c.in_ok-flush.ensures.bytes) fed.1 open_end fed.5
@@ -68,21 +71,21 @@ pieces-preserved g c =
     }
 
 pub returns-in-ReadFault-clause-told : goal.returns-in-ReadFault-clause-told
-returns-in-ReadFault-clause-told g c = λ left written h.
+returns-in-ReadFault-clause-told g c = λ options left written h.
     let now = stops_hungry Failed c.answer_whole.new.reader c.answer_whole.new.desk
     c.in_ok-status.field-0 c.in_default.is
-    (c.in_ok-status.ensures.told left (g.S.Source.left c.pieces.source) written
-    (c.pieces.invariant.told left written h)) in
+    (c.in_ok-status.ensures.told options left (g.S.Source.left c.pieces.source) written
+    (c.pieces.invariant.told options left written h)) in
     reached_read_fault c.answer_whole.new.reader c.answer_whole.new.desk
     (c.answer_whole.ensures.finished ∙ c.pieces.invariant.open_end)
     (underway_flushed now.0 c.in_ok-flush.ensures.bytes) now.1 c.in-ReadFault.ensures.fed.0
 
 pub returns-in-TooMuch-clause-told : goal.returns-in-TooMuch-clause-told
-returns-in-TooMuch-clause-told g c = λ left written h.
+returns-in-TooMuch-clause-told g c = λ options left written h.
     let now = stops_hungry Failed c.answer_whole.new.reader c.answer_whole.new.desk
     c.in_ok-status.field-0 c.in_default.is
-    (c.in_ok-status.ensures.told left (g.S.Source.left c.pieces.source) written
-    (c.pieces.invariant.told left written h)) in
+    (c.in_ok-status.ensures.told options left (g.S.Source.left c.pieces.source) written
+    (c.pieces.invariant.told options left written h)) in
     let fed = c.in-TooMuch.ensures.fed in
     reached_too_much c.answer_whole.new.reader c.answer_whole.new.desk fed.0
     (c.answer_whole.ensures.finished ∙ c.pieces.invariant.open_end)
@@ -90,11 +93,11 @@ returns-in-TooMuch-clause-told g c = λ left written h.
     (omega (arith, fed.2, c.answer_whole.ensures.end, c.pieces.invariant.room))
 
 pub returns-in-Memory-clause-told : goal.returns-in-Memory-clause-told
-returns-in-Memory-clause-told g c = λ left written h.
+returns-in-Memory-clause-told g c = λ options left written h.
     let now = stops_hungry Failed c.answer_whole.new.reader c.answer_whole.new.desk
     c.in_ok-status.field-0 c.in_default.is
-    (c.in_ok-status.ensures.told left (g.S.Source.left c.pieces.source) written
-    (c.pieces.invariant.told left written h)) in
+    (c.in_ok-status.ensures.told options left (g.S.Source.left c.pieces.source) written
+    (c.pieces.invariant.told options left written h)) in
     reached_unfed c.answer_whole.new.reader c.answer_whole.new.desk c.in-Memory.ensures.fed.0
     (c.answer_whole.ensures.finished ∙ c.pieces.invariant.open_end)
     (underway_flushed now.0 c.in_ok-flush.ensures.bytes) c.in-Memory.ensures.fed.1
@@ -106,13 +109,13 @@ returns-in-Memory-clause-told g c = λ left written h.
     ))
 
 pub returns-clause-told : goal.returns-clause-told
-returns-clause-told g c = λ left written h.
+returns-clause-told g c = λ options left written h.
     let now = stops_hungry Failed c.answer_whole.new.reader c.answer_whole.new.desk
     c.in_ok-status.field-0 c.in_default.is
-    (c.in_ok-status.ensures.told left (g.S.Source.left c.pieces.source) written
-    (c.pieces.invariant.told left written h)) in
+    (c.in_ok-status.ensures.told options left (g.S.Source.left c.pieces.source) written
+    (c.pieces.invariant.told options left written h)) in
     let fed = c.in-AtEnd.ensures.fed in
-    c.answer_whole-2.ensures.told left (g.S.Source.left c.feed_piece.new.source) written
+    c.answer_whole-2.ensures.told options left (g.S.Source.left c.feed_piece.new.source) written
     (underway_finished c.answer_whole.new.reader c.finish.new.self c.answer_whole.new.desk
     (underway_flushed now.0 c.in_ok-flush.ensures.bytes) fed.0 fed.1
     (c.finish.ensures ∙ ap (λ (u : Unread). record u { finished = true }) fed.2))

@@ -1,4 +1,5 @@
 use Rattle.std.proofs.Common.{◌≡◌, ◌+◌, ◌≤◌, ◌^◌, ℕ, List, Option, false, length}
+use Rattle.esc_options.specs.declared.options.Options.{Options}
 use Rattle.esc_top.specs.Underway.{Underway}
 use Rattle.esc_top.proofs.input.answer_pieces.Given as goal
 
@@ -7,9 +8,10 @@ invariant-pieces g l =
     let written = g.K.Sink.written in
     let source = g.S.Source.left in
     record {
-      told : (left before : Option (List ℕ)) → Underway left (source l.fn.source) before
-          (written l.fn.sink) l.fn.reader l.fn.desk
-          → Underway left (source l.source) before (written l.sink) l.reader l.desk;
+      told : (options : Options) (left before : Option (List ℕ))
+          → Underway options left (source l.fn.source) before (written l.fn.sink) l.fn.reader
+          l.fn.desk
+          → Underway options left (source l.source) before (written l.sink) l.reader l.desk;
       few : l.desk.goals ≤ l.reader.place;
       open_end : l.reader.finished ≡ false;
       room : l.reader.place + length l.reader.bytes + l.room ≡ 2 ^ 32;

@@ -1,16 +1,18 @@
 use Rattle.std.proofs.Common.{◌≡◌, ◌∙◌, Err, ap, arith}
 use Rattle.esc_top.proofs.ReadingLemmas.{hungry}
-use Rattle.esc_top.proofs.UnderwayLemmas.{broken_told, reached_memory, reached_syntax, stops_broken, stops_count, underway_forgot, underway_told}
+use Rattle.esc_top.proofs.UnderwayLemmas.{broken_told, reached_memory, reached_syntax}
+use Rattle.esc_top.proofs.UnderwayLemmas.{stops_broken, stops_count, underway_forgot}
+use Rattle.esc_top.proofs.UnderwayLemmas.{underway_told}
 use Rattle.esc_top.proofs.input.answer_whole.Goals as goal
 
 pub returns-in_err-tell-in-Ok-Some-clause-told : goal.returns-in_err-tell-in-Ok-Some-clause-told
-returns-in_err-tell-in-Ok-Some-clause-told g c = λ left rest written h.
+returns-in_err-tell-in-Ok-Some-clause-told g c = λ options left rest written h.
     let gives = rw c.in-Ok-Some.field-0-is at c.in-Ok-Some.ensures.some in
     stops_broken c.next.new.self c.tell.new.self c.from_residual.result c.from_residual.ensures.0
     (broken_told c.reading_laws.ensures.found_stays c.expressions.reader c.next.new.self
     c.expressions.desk c.tell.new.self
     c.in-Ok-Some.sexp c.in_err-tell-in-Ok-Some.field-0.0
-    (c.expressions.invariant.told left rest written h) gives
+    (c.expressions.invariant.told options left rest written h) gives
     c.in_err-tell-in-Ok-Some.ensures.answers)
 
 pub returns-in_err-tell-in-Ok-Some-clause-few : goal.returns-in_err-tell-in-Ok-Some-clause-few
@@ -19,8 +21,8 @@ returns-in_err-tell-in-Ok-Some-clause-few g c =
     omega (arith, gives.shorter, gives.end, c.tell.ensures.answers.few, c.expressions.invariant.few)
 
 pub returns-in-Ok-None-clause-told : goal.returns-in-Ok-None-clause-told
-returns-in-Ok-None-clause-told g c = λ left rest written h.
-    let now = c.expressions.invariant.told left rest written h in
+returns-in-Ok-None-clause-told g c = λ options left rest written h.
+    let now = c.expressions.invariant.told options left rest written h in
     let none = rw c.in-Ok-None.field-0-is at c.in-Ok-None.ensures.none in (
       underway_forgot c.expressions.reader c.next.new.self c.expressions.desk now none.1,
       hungry
@@ -33,8 +35,8 @@ returns-in-Ok-None-clause-few g c =
     omega (arith, none.1.later, c.expressions.invariant.few)
 
 pub returns-in-Err-Fault-clause-told : goal.returns-in-Err-Fault-clause-told
-returns-in-Err-Fault-clause-told g c = λ left rest written h.
-    let now = c.expressions.invariant.told left rest written h in
+returns-in-Err-Fault-clause-told g c = λ options left rest written h.
+    let now = c.expressions.invariant.told options left rest written h in
     reached_syntax c.expressions.reader c.expressions.desk c.in-Err-Fault.fault now
     (c.in-Err-Fault.ensures.fault c.in-Err-Fault.fault (ap Err c.in-Err-Fault.field-0-is)).0
 
@@ -46,9 +48,9 @@ returns-in-Err-Fault-clause-few g c =
     omega (arith, place, c.expressions.invariant.few)
 
 pub returns-in-Err-Memory-clause-told : goal.returns-in-Err-Memory-clause-told
-returns-in-Err-Memory-clause-told g c = λ left rest written h.
+returns-in-Err-Memory-clause-told g c = λ options left rest written h.
     reached_memory c.expressions.reader c.expressions.desk
-    (c.expressions.invariant.told left rest written h)
+    (c.expressions.invariant.told options left rest written h)
 
 pub expressions-smaller : goal.expressions-smaller
 expressions-smaller g c =
@@ -60,11 +62,11 @@ expressions-preserved-in_ok-tell-in-Ok-Some g c =
     let gives = rw c.in-Ok-Some.field-0-is at c.in-Ok-Some.ensures.some in
     let same = ap (λ u. u.finished) gives.rest in
     record {
-      told = λ left rest written h.
+      told = λ options left rest written h.
           underway_told c.reading_laws.ensures.found_stays c.expressions.reader c.next.new.self
           c.expressions.desk c.tell.new.self
           c.in-Ok-Some.sexp
-          (c.expressions.invariant.told left rest written h) gives
+          (c.expressions.invariant.told options left rest written h) gives
           c.in_ok-tell-in-Ok-Some.ensures.answers;
       few = omega (
         arith,
@@ -84,11 +86,11 @@ expressions-preserved-in_ok-tell-in-Ok-Some-2 g c =
     let gives = rw c.in-Ok-Some.field-0-is at c.in-Ok-Some.ensures.some in
     let same = ap (λ u. u.finished) gives.rest in
     record {
-      told = λ left rest written h.
+      told = λ options left rest written h.
           underway_told c.reading_laws.ensures.found_stays c.expressions.reader c.next.new.self
           c.expressions.desk c.tell.new.self
           c.in-Ok-Some.sexp
-          (c.expressions.invariant.told left rest written h) gives
+          (c.expressions.invariant.told options left rest written h) gives
           c.in_ok-tell-in-Ok-Some.ensures.answers;
       few = omega (
         arith,
@@ -107,11 +109,11 @@ expressions-preserved g c =
     let gives = rw c.in-Ok-Some.field-0-is at c.in-Ok-Some.ensures.some in
     let same = ap (λ u. u.finished) gives.rest in
     record {
-      told = λ left rest written h.
+      told = λ options left rest written h.
           underway_told c.reading_laws.ensures.found_stays c.expressions.reader c.next.new.self
           c.expressions.desk c.tell.new.self
           c.in-Ok-Some.sexp
-          (c.expressions.invariant.told left rest written h) gives
+          (c.expressions.invariant.told options left rest written h) gives
           c.in_ok-tell-in-Ok-Some.ensures.answers;
       few = omega (
         arith,

@@ -1,13 +1,14 @@
-use Rattle.esc_top.proofs.Complete.{runs_are_complete}
+use Rattle.esc_top.proofs.Answering.{runs_are_sharp, runs_are_sound}
 use Rattle.esc_top.proofs.StatusLemmas.{status_is_due}
 use Rattle.esc_top.proofs.laws.run_laws.Goals as goal
 
 pub returns : goal.returns
 returns c =
     let reading = c.reading_laws-2.ensures in
+    let names = c.reading_laws.ensures in
     record {
       status = status_is_due reading.found_stays reading.fault_stays reading.expression
           reading.either reading.reading;
-      complete = runs_are_complete c.answer_laws.ensures.complete c.reading_laws.ensures.stay
-          c.reading_laws.ensures.numbered;
+      sound = runs_are_sound c.answer_laws.ensures.sound names.stay names.numbered;
+      sharp = runs_are_sharp c.answer_laws.ensures.sharp names.stay names.numbered;
     }

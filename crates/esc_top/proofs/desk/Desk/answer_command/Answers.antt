@@ -3,14 +3,13 @@ use Rattle.esc_form.specs.declared.command.Kind.{Kind}
 use Rattle.esc_report.specs.declared.report.Refusal.TheVariants.{Unsupported}
 use Rattle.esc_report.specs.declared.report.Report.TheVariants.{Refused}
 use Rattle.esc_answers.specs.Answers.{AnswersKind}
-use Rattle.esc_top.specs.Progress.{limits_of_run}
 use Rattle.esc_top.specs.Underway.{state_of}
 use Rattle.esc_top.proofs.desk.Desk.answer_command.Goals as goal
 
 pub returns : goal.returns
 returns c =
-    let Answered = λ (k : Kind). AnswersKind limits_of_run (state_of c.args.self.now) c.args.place k
-    (Refused c.args.place Unsupported) (state_of c.args.self.now) in
+    let Answered = λ (k : Kind). AnswersKind c.args.self.now.options.limits
+    (state_of c.args.self.now) c.args.place k (Refused c.args.place Unsupported) (state_of c.args.self.now) in
     record {
       answers = elim c.in-Push.is [
         | inl push ↦ subst Answered (sym push.1) (refl, refl)
@@ -20,6 +19,8 @@ returns c =
               subst Answered (sym define.4) (refl, refl)
         ]
       ];
+      formulas = tt;
+      options = refl;
       names = refl;
       counted = omega arith;
       clean = refl;

@@ -1,0 +1,83 @@
+-- The reports that a search leads to.
+use Rattle.std.proofs.Common.{◌≡◌, ℕ, List, [], Some, length, refl, sym, subst, subst₂, ◌∙◌}
+use Rattle.std.specs.Prelude.{IsTrue}
+use Rattle.std.proofs.lemmas.List.Elements.{All-cons, All-nil, length_all_zip}
+use Rattle.esc_term.specs.declared.formula.Formula.{Formula}
+use Rattle.esc_term.specs.declared.formula.Formula.TheVariants.{Not}
+use Rattle.esc_term.specs.declared.formula.Item.{Item}
+use Rattle.esc_term.specs.Formula.{is_closed}
+use Rattle.esc_term.proofs.FormulaLevels.{binds-Not}
+use Rattle.esc_fact.specs.Fact.{formula_of, formulas_of}
+use Rattle.esc_fact.specs.Legal.{IsClosedBase}
+use Rattle.esc_fact.specs.declared.base.Base.{Base}
+use Rattle.esc_fact.specs.declared.fact.Fact.{Fact}
+use Rattle.esc_context.specs.Left.{IsLeft, Tells}
+use Rattle.esc_live.specs.View.{literals_on, logged}
+use Rattle.esc_options.specs.declared.options.Limits.{Limits}
+use Rattle.esc_outcome.specs.Causes.{IsCause}
+use Rattle.esc_fact.specs.Depth.{IsWithinLimits}
+use Rattle.esc_outcome.specs.Found.{IsInvalid, IsValid}
+use Rattle.esc_outcome.specs.FoundLaws.{RefutedIsValid}
+use Rattle.esc_outcome.specs.declared.branch.Cause.{Cause}
+use Rattle.esc_outcome.specs.declared.counterexample.Counterexample.{Counterexample}
+use Rattle.esc_report.specs.Goals.{base_of}
+use Rattle.esc_report.specs.declared.report.Report.TheVariants as report
+use Rattle.esc_search.specs.Proving.{IsLeftOpen, IsRefutedLog, IsStopped, live_facts}
+use Rattle.esc_search.specs.declared.search.Search.{Search}
+use Rattle.esc_top.specs.DeskInside.{AnswersBase}
+
+-- the search for a closed goal begins with a closed formula
+pub base_closed : (goal : Formula) → IsTrue (is_closed goal) → IsClosedBase (base_of goal)
+base_closed goal closed =
+    let Closed : Formula → Type 0 = λ f. IsTrue (is_closed f) in
+    All-cons Closed (Not goal) [] (binds-Not 0 goal ∙ closed) (All-nil Closed)
+
+-- ---- valid goals
+
+module _ (base : Base) (s : Search) (log : List Fact) (formulas : List Formula) where
+  pub log_valid : RefutedIsValid → IsRefutedLog base s
+      → logged s.branch ≡ formulas_of base s.log → log ≡ s.log → formulas ≡ logged s.branch
+      → IsValid base log formulas
+  log_valid law h same log_is formulas_are =
+      subst₂ (λ facts fs. IsValid base facts fs) (sym log_is) (sym (formulas_are ∙ same))
+      (law base s.log h.legal h.refuted)
+
+  pub each_formula : IsValid base log formulas → length formulas ≡ length log
+  each_formula valid = sym (length_all_zip (λ fact f. formula_of base fact ≡ Some f) log formulas
+      valid.formulas_are)
+
+pub valid_answers : (limits : Limits) (base : Base) (number : ℕ) (log : List Fact)
+    (formulas : List Formula) → IsValid base log formulas
+    → AnswersBase limits base number (report.Valid number log formulas)
+valid_answers limits base number log formulas valid goal place is =
+    (refl, subst (λ b. IsValid b log formulas) is valid)
+
+-- ---- goals that are not
+
+module _ (base : Base) (s : Search) (live : List Fact) (literals : List Item)
+    (live_is : live ≡ live_facts s) (literals_are : literals ≡ literals_on s.branch) where
+  pub left_here : IsLeftOpen base s → IsLeft base s.branch.sharing live literals
+  left_here h = subst₂ (λ facts items. IsLeft base s.branch.sharing facts items) (sym live_is)
+      (sym literals_are) h.left
+
+  found_invalid : (found : Counterexample) → IsLeftOpen base s
+      → Tells base s.branch.sharing live literals found → IsInvalid base s.limits found
+  found_invalid found h tells = record {
+    within = subst (IsWithinLimits base s.limits.depth s.limits.facts)
+        (sym (tells.facts ∙ live_is)) h.within;
+    counterexample = tells.counterexample;
+    labels = tells.labels;
+  }
+
+  pub invalid_answers : (number : ℕ) (found : Counterexample) → IsLeftOpen base s
+      → Tells base s.branch.sharing live literals found
+      → AnswersBase s.limits base number (report.Invalid number found)
+  invalid_answers number found h tells goal place is =
+      (refl, subst (λ b. IsInvalid b s.limits found) is (found_invalid found h tells))
+
+-- ---- goals whose search stopped
+
+pub unknown_answers : (base : Base) (s : Search) (number : ℕ) (cause : Cause)
+    → IsStopped base s cause → AnswersBase s.limits base number (report.Unknown number cause)
+unknown_answers base s number cause h goal place is =
+    (refl, subst (λ b. IsCause b s.limits cause) is h.cause_is)
