@@ -19,7 +19,7 @@ use Rattle.esc_answers.specs.Answers.{Answers}
 use Rattle.esc_answers.specs.Laws.{AnswersAreSharp, AnswersAreSound, IsSharpOf, IsSoundOf}
 use Rattle.esc_answers.specs.State.{State}
 use Rattle.esc_top.specs.Answers.{AnswersCommand, AnswersExpression}
-use Rattle.esc_top.specs.Laws.{IsGoal, IsSharpAt, IsSoundAt, RunsAreSharp, RunsAreSound}
+use Rattle.esc_top.specs.Laws.{IsGoal, RunsAreSharp, RunsAreSound}
 use Rattle.esc_top.specs.Told.{AnswersAll, Told}
 
 module _ (limits : Limits) (P : Formula → Type 0) (Q : Formula → Report → Type 0)

@@ -1,7 +1,8 @@
 -- The reports that a search leads to.
-use Rattle.std.proofs.Common.{◌≡◌, ℕ, List, [], Some, length, refl, sym, subst, subst₂, ◌∙◌}
-use Rattle.std.specs.Prelude.{IsTrue}
-use Rattle.std.proofs.lemmas.List.Elements.{All-cons, All-nil, length_all_zip}
+use Rattle.std.proofs.Common.{◌≡◌, ℕ, suc, List, [], ◌∷◌, Some, length, refl, sym, ap, subst, subst₂, ◌∙◌}
+use Rattle.std.specs.Prelude.{IfOk, IsTrue, Result, Ok, Err}
+use Rattle.std.specs.List.{AllZip}
+use Rattle.std.proofs.lemmas.List.Elements.{All-cons, All-nil}
 use Rattle.esc_term.specs.declared.formula.Formula.{Formula}
 use Rattle.esc_term.specs.declared.formula.Formula.TheVariants.{Not}
 use Rattle.esc_term.specs.declared.formula.Item.{Item}
@@ -13,6 +14,7 @@ use Rattle.esc_fact.specs.declared.base.Base.{Base}
 use Rattle.esc_fact.specs.declared.fact.Fact.{Fact}
 use Rattle.esc_context.specs.Left.{IsLeft, Tells}
 use Rattle.esc_live.specs.View.{literals_on, logged}
+use Rattle.esc_live.specs.declared.branch.LiveBranch.{LiveBranch}
 use Rattle.esc_options.specs.declared.options.Limits.{Limits}
 use Rattle.esc_outcome.specs.Causes.{IsCause}
 use Rattle.esc_fact.specs.Depth.{IsWithinLimits}
@@ -21,7 +23,9 @@ use Rattle.esc_outcome.specs.FoundLaws.{RefutedIsValid}
 use Rattle.esc_outcome.specs.declared.branch.Cause.{Cause}
 use Rattle.esc_outcome.specs.declared.counterexample.Counterexample.{Counterexample}
 use Rattle.esc_report.specs.Goals.{base_of}
+use Rattle.esc_report.specs.declared.report.Report.{Report}
 use Rattle.esc_report.specs.declared.report.Report.TheVariants as report
+use Rattle.esc_answers.specs.Answers.{AnswersGoal}
 use Rattle.esc_search.specs.Proving.{IsLeftOpen, IsRefutedLog, IsStopped, live_facts}
 use Rattle.esc_search.specs.declared.search.Search.{Search}
 use Rattle.esc_top.specs.DeskInside.{AnswersBase}
@@ -34,6 +38,13 @@ base_closed goal closed =
 
 -- ---- valid goals
 
+length-zipped : {X Y : Type 0} (R : X → Y → Type 0) (xs : List X) (ys : List Y)
+    → AllZip R xs ys → length ys ≡ length xs
+length-zipped R [] [] h = refl
+length-zipped R [] (y ∷ ys) h = absurd h
+length-zipped R (x ∷ xs) [] h = absurd h
+length-zipped R (x ∷ xs) (y ∷ ys) h = ap suc (length-zipped R xs ys h.1)
+
 module _ (base : Base) (s : Search) (log : List Fact) (formulas : List Formula) where
   pub log_valid : RefutedIsValid → IsRefutedLog base s
       → logged s.branch ≡ formulas_of base s.log → log ≡ s.log → formulas ≡ logged s.branch
@@ -43,8 +54,8 @@ module _ (base : Base) (s : Search) (log : List Fact) (formulas : List Formula) 
       (law base s.log h.legal h.refuted)
 
   pub each_formula : IsValid base log formulas → length formulas ≡ length log
-  each_formula valid = sym (length_all_zip (λ fact f. formula_of base fact ≡ Some f) log formulas
-      valid.formulas_are)
+  each_formula valid = length-zipped (λ fact f. formula_of base fact ≡ Some f) log formulas
+      valid.formulas_are
 
 pub valid_answers : (limits : Limits) (base : Base) (number : ℕ) (log : List Fact)
     (formulas : List Formula) → IsValid base log formulas
@@ -54,14 +65,16 @@ valid_answers limits base number log formulas valid goal place is =
 
 -- ---- goals that are not
 
-module _ (base : Base) (s : Search) (live : List Fact) (literals : List Item)
-    (live_is : live ≡ live_facts s) (literals_are : literals ≡ literals_on s.branch) where
-  pub left_here : IsLeftOpen base s → IsLeft base s.branch.sharing live literals
-  left_here h = subst₂ (λ facts items. IsLeft base s.branch.sharing facts items) (sym live_is)
-      (sym literals_are) h.left
+module _ (base : Base) (s : Search) (v : LiveBranch) (here : v ≡ s.branch) (live : List Fact)
+    (literals : List Item) (live_is : live ≡ live_facts s)
+    (literals_are : literals ≡ literals_on v) where
+  pub left_here : IsLeftOpen base s → IsLeft base v.sharing live literals
+  left_here h = subst (λ (w : LiveBranch). IsLeft base w.sharing live literals) (sym here)
+      (subst₂ (λ facts items. IsLeft base s.branch.sharing facts items) (sym live_is)
+      (sym (literals_are ∙ ap literals_on here)) h.left)
 
   found_invalid : (found : Counterexample) → IsLeftOpen base s
-      → Tells base s.branch.sharing live literals found → IsInvalid base s.limits found
+      → Tells base v.sharing live literals found → IsInvalid base s.limits found
   found_invalid found h tells = record {
     within = subst (IsWithinLimits base s.limits.depth s.limits.facts)
         (sym (tells.facts ∙ live_is)) h.within;
@@ -70,7 +83,7 @@ module _ (base : Base) (s : Search) (live : List Fact) (literals : List Item)
   }
 
   pub invalid_answers : (number : ℕ) (found : Counterexample) → IsLeftOpen base s
-      → Tells base s.branch.sharing live literals found
+      → Tells base v.sharing live literals found
       → AnswersBase s.limits base number (report.Invalid number found)
   invalid_answers number found h tells goal place is =
       (refl, subst (λ b. IsInvalid b s.limits found) is (found_invalid found h tells))
@@ -81,3 +94,11 @@ pub unknown_answers : (base : Base) (s : Search) (number : ℕ) (cause : Cause)
     → IsStopped base s cause → AnswersBase s.limits base number (report.Unknown number cause)
 unknown_answers base s number cause h goal place is =
     (refl, subst (λ b. IsCause b s.limits cause) is h.cause_is)
+
+-- ---- any goal
+
+pub goal_answers : {E : Type 0} (limits : Limits) (base : Base) (number : ℕ) (f : Formula)
+    (r : Result Report E) → base ≡ base_of f → IfOk r (AnswersBase limits base number)
+    → IfOk r (λ report. (place : ℕ) → AnswersGoal limits f number place report)
+goal_answers limits base number f (Ok report) is h = λ place. h f place is
+goal_answers limits base number f (Err e) is h = tt

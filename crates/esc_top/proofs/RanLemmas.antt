@@ -1,5 +1,5 @@
 -- The last line is written, and the run has ended.
-use Rattle.std.proofs.Common.{◌≡◌, ℕ, ◌≤◌, List, [], arith, Option, Result, Ok, Err, inl, inr, refl}
+use Rattle.std.proofs.Common.{◌≡◌, ℕ, List, [], arith, Option, Result, Ok, Err, inl, inr, refl}
 use Rattle.std.proofs.Common.{sym, subst}
 use Rattle.std.specs.Prelude.{◌≢◌}
 use Rattle.std.proofs.lemmas.List.{append-nil}
@@ -11,7 +11,6 @@ use Rattle.esc_words.specs.Words.{AsksFor}
 use Rattle.esc_words.specs.declared.read.WordsStop.TheVariants.{Bad}
 use Rattle.esc_top.specs.LastLine.{last_line}
 use Rattle.esc_top.specs.Ran.{AreAsked, IsCounted, Ran}
-use Rattle.esc_top.specs.Reading.{max_input}
 use Rattle.esc_top.specs.Told.{Told, texts}
 use Rattle.esc_top.specs.Underway.{Broken, Came, Meets, Met, Reached}
 use Rattle.esc_top.specs.declared.status.Status.{Status}

@@ -1,8 +1,10 @@
 //! Answers a goal by a search for a refutation of its negation.
 
-ghost use Rattle.std.specs.Prelude.{◌≡◌, ℕ, IfOk, IsTrue};
+ghost use Rattle.std.specs.Prelude.{◌≡◌, ◌≢◌, ℕ, IfOk, IsTrue};
+ghost use Rattle.std.specs.Option.{IsSome};
 ghost use Rattle.esc_answers.specs.Answers.{AnswersGoal};
 ghost use Rattle.esc_fact.specs.Fact.{formulas_of};
+ghost use Rattle.esc_fact.specs.Legal.{IsClosedBase};
 ghost use Rattle.esc_live.specs.View.{logged};
 ghost use Rattle.esc_report.specs.Goals.{base_of};
 ghost use Rattle.esc_report.specs.Text.{HasEachFormula};
@@ -50,7 +52,7 @@ fn valid(search: Search, base: &Base, goal: u64) -> Result<Report, AllocError>
 
 /// The report on a goal of which a branch is left open.
 fn invalid(alloc: Global, search: &Search, base: &Base, goal: u64) -> Result<Report, AllocError>
-    requires open { IsLeftOpen base.now search.now }
+    requires left { IsLeftOpen base.now search.now }
     ensures answers { IfOk result (AnswersBase search.now.limits base.now goal) }
     ensures formulas { IfOk result HasEachFormula }
 {
@@ -61,24 +63,39 @@ fn invalid(alloc: Global, search: &Search, base: &Base, goal: u64) -> Result<Rep
     Ok(Report::Invalid { goal, found })
 }
 
-/// The report on a goal whose search came to this.
-fn report_on(
+/// The report on a goal whose search did not refute every branch.
+fn open_report(
     alloc: Global,
-    search: Search,
+    search: &Search,
     outcome: Outcome,
     base: &Base,
     goal: u64,
 ) -> Result<Report, AllocError>
-    requires comes { ComesTo base.now search outcome }
-    requires formulas { logged search.branch ≡ formulas_of base.now search.log }
-    ensures answers { IfOk result (AnswersBase search.limits base.now goal) }
+    requires comes { ComesTo base.now search.now outcome }
+    requires left { outcome ≢ Outcome.Closed }
+    ensures answers { IfOk result (AnswersBase search.now.limits base.now goal) }
     ensures formulas { IfOk result HasEachFormula }
 {
     match outcome {
-        Outcome::Closed => valid(search, base, goal),
-        Outcome::Open => invalid(alloc, &search, base, goal),
+        Outcome::Closed => unreachable!(),
+        Outcome::Open => invalid(alloc, search, base, goal),
         Outcome::Stopped(cause) => Ok(Report::Unknown { goal, cause }),
         Outcome::Memory => Err(AllocError),
+    }
+}
+
+/// The report on the goal whose negation stands in the base. A search has many parts, so that it
+/// goes out of scope at one place.
+fn searched(alloc: Global, limits: Limits, base: &Base, goal: u64) -> Result<Report, AllocError>
+    requires closed { IsClosedBase base.now }
+    requires goal { IsSome base.now.negated }
+    ensures answers { IfOk result (AnswersBase limits base.now goal) }
+    ensures formulas { IfOk result HasEachFormula }
+{
+    let mut search = Search::new(alloc, limits)?;
+    match search.prove(base) {
+        Outcome::Closed => valid(search, base, goal),
+        outcome => open_report(alloc, &search, outcome, base, goal),
     }
 }
 
@@ -96,7 +113,5 @@ pub fn report_of(
     ensures formulas { IfOk result HasEachFormula }
 {
     let base = base_of(alloc, formula)?;
-    let mut search = Search::new(alloc, limits)?;
-    let outcome = search.prove(&base);
-    report_on(alloc, search, outcome, &base, goal)
+    searched(alloc, limits, &base, goal)
 }
