@@ -92,8 +92,7 @@ fn words_that_ask_for_something(rt: HostRuntime) -> Result<(), Fail> {
     Ok(())
 }
 
-const USAGE: &[u8] =
-    b"usage: simplify [--log] [--model] [--depth N] [--rounds N] [--facts N] \
+const USAGE: &[u8] = b"usage: simplify [--log] [--model] [--depth N] [--rounds N] [--facts N] \
     [--splits N] [--pivots N]\n";
 
 #[test]
