@@ -7,7 +7,7 @@ pub mod AskedOrders
 pub mod Becoming
 pub mod BesideQuantified
 pub mod BoundNodes
-pub mod ChosenClasses
+pub mod ClassPlaces
 pub mod Consistent
 pub mod Demanded
 pub mod Exactness

@@ -99,6 +99,9 @@ impl Theory for Simplex {
     }
 
     fn next_equal(&mut self, graph: &EGraph) -> Result<Option<(Node, Node)>, Stop> {
+        if self.number_count() == 0 {
+            return Ok(None);
+        }
         let Ok(chosen) = class_numbers(self, graph) else {
             return Err(Stop::Memory);
         };
