@@ -34,6 +34,7 @@ pub mod SaidInModels
 pub mod Seats
 pub mod Settling
 pub mod SharingNotes
+pub mod Staying
 pub mod Starting
 pub mod ToldInOrder
 pub mod ToldPairs

@@ -13,5 +13,6 @@ pub mod Numbers
 pub mod SettlingInside
 pub mod Shared
 pub mod SharingUndo
+pub mod Staying
 pub mod Stops
 pub mod Unquantified

@@ -1,11 +1,12 @@
-//! What holds of models, classes and assignments where terms are arithmetic. The functions state
-//! it, and do nothing.
+//! What holds of models, classes and assignments where terms are arithmetic, and where records are
+//! taken back. The functions state it, and do nothing.
 
 ghost use Rattle.esc_cover.specs.Arithmetic.{InPlay};
 ghost use Rattle.esc_cover.specs.Laws.{CoverIsSound, TogetherHasOneValue};
 ghost use Rattle.esc_sharing.specs.ModelLaws.{AdmitsWhatSuits, ConsistentStays, LeastStays};
 ghost use Rattle.esc_sharing.specs.ModelLaws.{PartedStays, SatisfiesStays};
 ghost use Rattle.esc_sharing.specs.Shared.{IsShared, seen};
+ghost use Rattle.esc_sharing.specs.Staying.{MarkStays, PromiseStays};
 ghost use Rattle.esc_sharing.specs.declared.sharing.Sharing.{Sharing as Shares};
 
 use crate::theory::Theory;
@@ -30,4 +31,12 @@ pub fn unquantified_laws()
 pub fn admitted_laws<T: Theory>()
     ensures { (s : Shares T) → IsShared (seen T.sound T.admits T.numbers s)
         → AdmitsWhatSuits (seen T.sound T.admits T.numbers s) }
+{}
+
+/// What a sharing promises, another that is the same in what taking back restores promises too. So
+/// a mark at which all was promised stays one through each call, whatever it answers, and all is
+/// promised again where the sharing is taken back to it.
+pub fn staying_laws<T: Theory>()
+    ensures same { PromiseStays T.undo T.sound T.admits T.numbers }
+    ensures marks { MarkStays T.undo T.sound T.admits T.numbers }
 {}

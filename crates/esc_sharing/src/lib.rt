@@ -19,7 +19,7 @@ mod steps;
 mod telling;
 mod theory;
 
-pub use laws::{admitted_laws, model_laws, unquantified_laws};
+pub use laws::{admitted_laws, model_laws, staying_laws, unquantified_laws};
 pub use literal::{Lit, Lits, NodePairs};
 pub use record::{CarriesShare, PartRec, ShareRec};
 pub use sharing::Sharing;
