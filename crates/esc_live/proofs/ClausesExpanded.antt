@@ -78,6 +78,7 @@ module _ (v : LiveBranch) (more : List Clause) where
         literals = same.literals;
         decisions = refl;
         given = given_behind given;
+        means = same.means;
         limit = refl;
       }
 

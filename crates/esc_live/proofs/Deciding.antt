@@ -18,9 +18,11 @@ use Rattle.esc_clause.specs.declared.decision.Decision.{Decision}
 use Rattle.esc_clause.specs.declared.occurrence.Occurrence.{Occurrence}
 use Rattle.esc_book.specs.Book.{IsLiveOccurrence}
 use Rattle.esc_egraph.specs.declared.state.State.{State}
+use Rattle.esc_simplex.specs.View.{senses_in}
 use Rattle.esc_simplex.specs.declared.stop.Stop.{Stop}
 use Rattle.esc_sharing.proofs.Lists.{All-each}
-use Rattle.esc_live.specs.Calls.{Ends, GoesOn, HoldsWithDecision}
+use Rattle.esc_play.proofs.MoreBehind.{more_none}
+use Rattle.esc_live.specs.Calls.{Ends, GoesOn, HoldsWithDecision, MeansMore}
 use Rattle.esc_live.specs.Promises.{AreDecisions, IsBranch, IsGiven, IsMade, IsSharedOn, IsUndecided}
 use Rattle.esc_live.specs.Promises.{WasExpanded, decided_as}
 use Rattle.esc_live.specs.StandingInside.{AreSoIn, Asserts, IsStanding, Steps}
@@ -144,6 +146,7 @@ module _ (v : LiveBranch) (is : IsBranch v) (given : IsGiven v) (d : Decision)
         steps.decisions
             ∙ ap (λ (x : LiveBranch). x.clauses.decisions) is_with,
       );
+      means = subst (λ (x : LiveBranch). MeansMore x w) is_with steps.means;
       limit = steps.limit ∙ ap (λ (x : LiveBranch). x.sharing.theory.limit) is_with;
     }
 
@@ -163,5 +166,7 @@ goes_nowhere v w same = record {
     ap (λ (x : LiveBranch). x.clauses.decisions) same
         ∙ sym (append-nil v.clauses.decisions),
   );
+  means = more_none (senses_in v.sharing.theory) (senses_in w.sharing.theory)
+      (ap (λ (x : LiveBranch). senses_in x.sharing.theory) same);
   limit = ap (λ (x : LiveBranch). x.sharing.theory.limit) same;
 }

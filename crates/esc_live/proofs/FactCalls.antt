@@ -16,12 +16,13 @@ use Rattle.esc_cover.proofs.TestLemmas.{all_at}
 use Rattle.esc_clause.specs.declared.occurrence.Occurrence.{Occurrence}
 use Rattle.esc_book.specs.Book.{BookStays, BookView, IsBook}
 use Rattle.esc_egraph.specs.declared.state.State.TheVariants.{Open}
-use Rattle.esc_simplex.specs.View.{IsSimplex}
+use Rattle.esc_simplex.specs.View.{IsSimplex, senses_in}
 use Rattle.esc_sharing.specs.Nodes.{terms_in}
 use Rattle.esc_sharing.proofs.Lists.{All-each}
 use Rattle.esc_outcome.specs.JamLaws.{IsGivenBy, shared_in}
+use Rattle.esc_play.proofs.MoreBehind.{more_both}
 use Rattle.esc_play.specs.Play.{PlayEnds}
-use Rattle.esc_live.specs.Calls.{AddsLiterals, GoesLiveOrNothing}
+use Rattle.esc_live.specs.Calls.{AddsLiterals, GoesLiveOrNothing, MeansMore}
 use Rattle.esc_live.specs.Promises.{IsBranch, IsGiven}
 use Rattle.esc_live.specs.StandingInside.{Brings, Steps}
 use Rattle.esc_live.specs.View.{live_on, logged}
@@ -113,7 +114,15 @@ module _ (v m u : LiveBranch) (brought : m ≡ record v { sharing = m.sharing })
       → u.sharing.theory.limit ≡ v.sharing.theory.limit
   went_limit limit = ap (λ (x : LiveBranch). x.sharing.theory.limit) went ∙ limit
 
+  pub went_means : MeansMore v m → MeansMore v u
+  went_means means = subst (λ (x : LiveBranch). MeansMore v x) (sym went) means
+
   module _ (w : LiveBranch) (steps : Steps u w) where
+    pub steps_means : MeansMore v m → MeansMore v w
+    steps_means means =
+        more_both (senses_in v.sharing.theory) (senses_in u.sharing.theory)
+        (senses_in w.sharing.theory) (went_means means) steps.means
+
     pub steps_literals : AddsLiterals v w
     steps_literals = (
       steps.literals.0,

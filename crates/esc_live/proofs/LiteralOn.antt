@@ -52,7 +52,7 @@ use Rattle.esc_sharing.specs.declared.sharing.Sharing.{Sharing}
 use Rattle.esc_sharing.proofs.BesideQuantified.{consistent_stays, least_stays}
 use Rattle.esc_sharing.proofs.Lists.{All-each, Contains-of_map, flat_map-push}
 use Rattle.esc_outcome.specs.JamLaws.{IsGivenBy, shared_in}
-use Rattle.esc_live.specs.Calls.{IsStoppedAt}
+use Rattle.esc_live.specs.Calls.{IsStoppedAt, MeansMore}
 use Rattle.esc_live.specs.Expanded.IsExpanded.{covered}
 use Rattle.esc_live.specs.Promises.{IsGiven, IsMade, IsSharedOn, IsSoundIn, WasExpanded}
 use Rattle.esc_live.specs.StandingInside.{AreSoIn, Asserts, Comes, IsLiteralAt, IsStanding, Reaches}
@@ -355,8 +355,8 @@ module _ (v : LiveBranch) (standing : IsStanding v) (given : IsGiven v) (at : Oc
 
     pub steps_literal : IsSimplex w.sharing.theory
         → StaysGiven p.sharing.theory w.sharing.theory
-        → w.sharing.theory.limit ≡ p.sharing.theory.limit → Steps v w
-    steps_literal sound stays limit = record {
+        → w.sharing.theory.limit ≡ p.sharing.theory.limit → MeansMore p w → Steps v w
+    steps_literal sound stays limit means = record {
       book = ap (λ (x : LiveBranch). x.book) whole;
       literals = (at ∷ [], ap (λ (x : LiveBranch). x.literals) whole);
       decisions = ap (λ (x : LiveBranch). x.clauses.decisions) whole;
@@ -367,5 +367,6 @@ module _ (v : LiveBranch) (standing : IsStanding v) (given : IsGiven v) (at : Oc
             (stays (logged v) (subst (λ (x : LiveBranch). IsGivenBy (logged v) x.sharing.theory)
             (sym is) given.given));
       };
+      means = subst (λ (x : LiveBranch). MeansMore x w) is means;
       limit = limit ∙ ap (λ (x : LiveBranch). x.sharing.theory.limit) is;
     }

@@ -17,6 +17,8 @@ use Rattle.esc_simplex.specs.declared.stop.Stop.{Stop}
 use Rattle.esc_simplex.specs.declared.stop.Stop.TheVariants as stop
 use Rattle.esc_sharing.proofs.Lists.{All-append_left, All-append_right}
 use Rattle.esc_live.specs.Promises.{IsGiven, WasExpanded}
+use Rattle.esc_play.proofs.MoreBehind.{more_both, more_none}
+use Rattle.esc_simplex.specs.View.{senses_in}
 use Rattle.esc_live.specs.StandingInside.{AreSoIn, Asserts, IsStanding, Reaches, Steps}
 use Rattle.esc_live.specs.StandingInside.{StopsAsserting}
 use Rattle.esc_live.specs.View.{logged}
@@ -30,6 +32,7 @@ steps_nothing v given = record {
   literals = ([], sym (append-nil v.literals));
   decisions = refl;
   given = given;
+  means = more_none (senses_in v.sharing.theory) (senses_in v.sharing.theory) refl;
   limit = refl;
 }
 
@@ -47,6 +50,8 @@ steps_both u v w a b = record {
   );
   decisions = b.decisions ∙ a.decisions;
   given = b.given;
+  means = more_both (senses_in u.sharing.theory) (senses_in v.sharing.theory)
+      (senses_in w.sharing.theory) a.means b.means;
   limit = b.limit ∙ a.limit;
 }
 

@@ -10,7 +10,7 @@ use Rattle.esc_book.specs.declared.record.BookRec.TheVariants as book
 use Rattle.esc_simplex.proofs.BackIsSound.{back_is_sound}
 use Rattle.esc_simplex.specs.Senses.{term_at}
 use Rattle.esc_simplex.specs.SimplexUndo.{CanGoBack, simplex_back}
-use Rattle.esc_simplex.specs.View.{IsSimplex, numbers_in}
+use Rattle.esc_simplex.specs.View.{IsSimplex, numbers_in, senses_in}
 use Rattle.esc_simplex.specs.declared.record.SimplexRec.{SimplexRec}
 use Rattle.esc_simplex.specs.declared.record.SimplexRec.TheVariants.{Listed, Bound, Restricted}
 use Rattle.esc_simplex.specs.declared.simplex.Simplex.{Simplex}
@@ -52,6 +52,11 @@ limit_back v Listed = refl
 limit_back v Bound = refl
 limit_back v Restricted = refl
 
+means_back : (v : Simplex) (rec : SimplexRec) → senses_in (simplex_back v rec) ≡ senses_in v
+means_back v Listed = refl
+means_back v Bound = refl
+means_back v Restricted = refl
+
 kept_given : (v w : LiveBranch) → w.sharing.theory ≡ v.sharing.theory
     → w.book.logged ≡ v.book.logged → IsGiven v → LeavesLog v w
 kept_given v w theory logged given = record {
@@ -61,6 +66,7 @@ kept_given v w theory logged given = record {
         (subst (IsGivenBy v.book.logged) (sym theory) given.given);
   };
   log = logged;
+  means = ap (λ (t : Simplex). senses_in t) theory;
   limit = ap (λ (t : Simplex). t.limit) theory;
 }
 
@@ -76,6 +82,7 @@ one_back v (Shared (part.Theory rec)) can given = record {
     given = given_back v.book.logged v.sharing.theory rec given.given;
   };
   log = refl;
+  means = means_back v.sharing.theory rec;
   limit = limit_back v.sharing.theory rec;
 }
 one_back v (Clauses rec) can given = kept_given v _ refl refl given
@@ -90,6 +97,7 @@ rewound_is_given v (rec ∷ recs) can given =
     record {
       given = last.given;
       log = last.log ∙ earlier.log;
+      means = last.means ∙ earlier.means;
       limit = last.limit ∙ earlier.limit;
     }
 

@@ -9,11 +9,13 @@ use Rattle.esc_clause.specs.declared.occurrence.Occurrence.{Occurrence}
 use Rattle.esc_book.specs.Book.{IsBook, IsLiveOccurrence}
 use Rattle.esc_egraph.specs.declared.state.State.{State}
 use Rattle.esc_egraph.specs.declared.state.State.TheVariants.{Open, Closed}
+use Rattle.esc_simplex.specs.View.{senses_in}
 use Rattle.esc_simplex.specs.declared.stop.Stop.{Stop}
 use Rattle.esc_simplex.specs.declared.stop.Stop.TheVariants as stop
 use Rattle.esc_sharing.specs.Shared.{AreEqualInModels, told_in}
 use Rattle.esc_outcome.specs.JamLaws.{shared_in}
 use Rattle.esc_outcome.specs.Stopping.{IsStopped}
+use Rattle.esc_play.specs.Play.{HasMore}
 use Rattle.esc_live.specs.Promises.{IsBranch, IsSoundIn, decided_as, whole_at}
 use Rattle.esc_live.specs.View.{literals_on, logged}
 use Rattle.esc_live.specs.declared.branch.LiveBranch.{LiveBranch}
@@ -43,11 +45,16 @@ abbrev pub GoesLiveOrNothing : LiveBranch → LiveBranch → ℕ → Type 0
 GoesLiveOrNothing v w place = (w.book.live ≡ v.book.live ++ place ∷ [])
     ⊎ ((w.book.live ≡ v.book.live) × (w.literals ≡ v.literals))
 
+-- what unknowns of the arithmetic stood for they stand for, and others may have come behind them
+abbrev pub MeansMore : LiveBranch → LiveBranch → Type 0
+MeansMore v w = HasMore (senses_in v.sharing.theory) (senses_in w.sharing.theory)
+
 -- log and live facts are as they were, and literals and decisions came behind the others
 pub record GoesOn (v w : LiveBranch) : Type 0 where
   pub book : w.book ≡ v.book
   pub literals : AddsLiterals v w
   pub decisions : (more : List Decision) × (w.clauses.decisions ≡ v.clauses.decisions ++ more)
+  pub means : MeansMore v w
   pub limit : w.sharing.theory.limit ≡ v.sharing.theory.limit
 
 -- the branch is so in the model, and so is the fact at the place of the log

@@ -5,6 +5,7 @@ use Rattle.esc_term.specs.declared.formula.Formula.{Formula}
 use Rattle.esc_term.specs.Formula.{is_closed}
 use Rattle.esc_term.specs.Model.{Model}
 use Rattle.esc_trail.specs.Undo.{CanRewind, rewind}
+use Rattle.esc_simplex.specs.View.{senses_in}
 use Rattle.esc_live.specs.LiveUndo.{AreSame, live_undo}
 use Rattle.esc_live.specs.Promises.{IsBranch, IsGiven, IsSoundIn}
 use Rattle.esc_live.specs.View.{logged}
@@ -28,10 +29,11 @@ abbrev pub BackIsSound : Type 0
 BackIsSound = (v w : LiveBranch) → IsBackAt v w → IsBranch w → (M : Model) → IsSoundIn M w
     → IsSoundIn M v
 
--- taking back leaves the log, the limit, and the arithmetic given by the log
+-- taking back leaves the log, the limit, what unknowns stand for, and the arithmetic given by the log
 pub record LeavesLog (v w : LiveBranch) : Type 0 where
   pub given : IsGiven w
   pub log : logged w ≡ logged v
+  pub means : senses_in w.sharing.theory ≡ senses_in v.sharing.theory
   pub limit : w.sharing.theory.limit ≡ v.sharing.theory.limit
 
 abbrev pub RewoundIsGiven : Type 0

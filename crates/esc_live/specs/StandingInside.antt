@@ -28,7 +28,7 @@ use Rattle.esc_sharing.specs.declared.sharing.Sharing.{Sharing}
 use Rattle.esc_outcome.specs.JamLaws.{IsGivenBy, shared_in}
 use Rattle.esc_outcome.specs.Stopping.{IsStopped}
 use Rattle.esc_play.specs.Play.{PlayEnds}
-use Rattle.esc_live.specs.Calls.{AddsLiterals, IsStoppedAt}
+use Rattle.esc_live.specs.Calls.{AddsLiterals, IsStoppedAt, MeansMore}
 use Rattle.esc_live.specs.Promises.{IsGiven, IsMade, IsSharedOn, IsSoundIn, WasExpanded}
 use Rattle.esc_live.specs.View.{literals_on, logged}
 use Rattle.esc_live.specs.declared.branch.LiveBranch.{LiveBranch}
@@ -54,6 +54,7 @@ pub record Steps (v w : LiveBranch) : Type 0 where
   pub literals : AddsLiterals v w
   pub decisions : w.clauses.decisions ≡ v.clauses.decisions
   pub given : IsGiven w
+  pub means : MeansMore v w
   pub limit : w.sharing.theory.limit ≡ v.sharing.theory.limit
 
 -- the branch is so in the model, and so are the occurrences

@@ -13,7 +13,7 @@ ghost use Rattle.esc_term.specs.Formula.{is_closed, terms_of};
 ghost use Rattle.esc_term.specs.Model.{Model};
 ghost use Rattle.esc_trail.specs.Undo.{Notes};
 ghost use Rattle.esc_live.specs.Calls.{AddsLiterals, Ends, GoesLiveOrNothing, GoesOn};
-ghost use Rattle.esc_live.specs.Calls.{HoldsWithDecision, HoldsWithFact};
+ghost use Rattle.esc_live.specs.Calls.{HoldsWithDecision, HoldsWithFact, MeansMore};
 ghost use Rattle.esc_live.specs.LiveUndo.{live_undo};
 ghost use Rattle.esc_live.specs.Promises.{IsBranch, IsGiven, IsSoundIn, IsUndecided};
 ghost use Rattle.esc_live.specs.View.{logged};
@@ -62,6 +62,7 @@ impl LiveBranch {
         ensures decisions { self.new.clauses.decisions ≡ self.old.clauses.decisions }
         ensures limit { self.new.sharing.theory.limit ≡ self.old.sharing.theory.limit }
         ensures given { IsGiven self.new }
+        ensures means { MeansMore self.old self.new }
         ensures undo { Notes live_undo (λ rec. rec) trail.old.records trail.new.records
             self.old self.new }
     {
@@ -85,6 +86,7 @@ impl LiveBranch {
         ensures ends { (f : Formula) → slice_get (logged self.old) place ≡ Some f
             → Brings self.old self.new f result }
         ensures given { IsGiven self.new }
+        ensures means { MeansMore self.old self.new }
         ensures limit { self.new.sharing.theory.limit ≡ self.old.sharing.theory.limit }
         ensures undo { Notes live_undo (λ rec. rec) trail.old.records trail.new.records
             self.old self.new }

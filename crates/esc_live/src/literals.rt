@@ -10,6 +10,7 @@ ghost use Rattle.esc_clause.specs.declared.truth.Truth.TheVariants as truth;
 ghost use Rattle.esc_sharing.specs.Shared.{IsShared};
 ghost use Rattle.esc_simplex.specs.View.{IsSimplex};
 ghost use Rattle.esc_outcome.specs.JamLaws.{shared_in};
+ghost use Rattle.esc_live.specs.Calls.{MeansMore};
 ghost use Rattle.esc_live.specs.LiveUndo.{live_undo};
 ghost use Rattle.esc_live.specs.Promises.{IsGiven, IsSharedOn};
 ghost use Rattle.esc_live.specs.StandingInside.{Asserts, Comes, IsLiteralAt, IsStanding, StaysGiven};
@@ -77,6 +78,7 @@ impl LiveBranch {
         ensures comes { Comes self.old self.new at result }
         ensures given { StaysGiven self.old.sharing.theory self.new.sharing.theory }
         ensures sound { IsSimplex self.new.sharing.theory }
+        ensures means { MeansMore self.old self.new }
         ensures limit { self.new.sharing.theory.limit ≡ self.old.sharing.theory.limit }
         ensures undo { Notes live_undo (λ rec. rec) trail.old.records trail.new.records
             self.old self.new }

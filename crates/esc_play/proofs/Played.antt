@@ -25,7 +25,7 @@ use Rattle.esc_sharing.specs.Calls.{AddsNumbers, AreNodesFor, KeepsTerms, StepEn
 use Rattle.esc_sharing.specs.Calls.{terms_at}
 use Rattle.esc_sharing.specs.Literals.{group_item, item_of}
 use Rattle.esc_sharing.specs.Nodes.{node_term}
-use Rattle.esc_sharing.specs.Numbers.{IsGapOf, IsNumber, number_terms}
+use Rattle.esc_sharing.specs.Numbers.{AddsMade, IsGapOf, IsNumber, number_terms}
 use Rattle.esc_sharing.specs.Shared.{IsShared, IsUnderway, Shared, items_in, literals_in}
 use Rattle.esc_sharing.specs.Stops.{UnlessMemory}
 use Rattle.esc_sharing.specs.declared.literal.Lit.{Lit}
@@ -37,8 +37,9 @@ use Rattle.esc_outcome.specs.Jam.{IsNumberOf}
 use Rattle.esc_outcome.specs.JamLaws.{IsGivenBy, shared_in}
 use Rattle.esc_outcome.proofs.Giving.{given_after_call}
 use Rattle.esc_outcome.proofs.Jamming.{stops_is_stopped}
-use Rattle.esc_play.specs.Play.{Comes, GivesMore, PlayEnds, PlaysMore, StopsPlay}
+use Rattle.esc_play.specs.Play.{Comes, GivesMore, HasMore, PlayEnds, PlaysMore, StopsPlay}
 use Rattle.esc_play.specs.WalkingInside.{Brings, arithmetic_of, sides_in}
+use Rattle.esc_play.proofs.MoreBehind.{more_both, more_none}
 use Rattle.esc_play.proofs.MorePlay.{active_terms-push, becomes_number, new_number, number_or_new}
 use Rattle.esc_play.proofs.MorePlay.{was_number}
 
@@ -223,6 +224,19 @@ pub gives_same : (entry mid : Sharing Simplex) (f : Formula)
     → mid ≡ record entry { graph = mid.graph } → GivesMore entry.theory mid.theory f
 gives_same entry mid f rest fs among given =
     subst (IsGivenBy fs) (sym (ap (λ (s : Sharing Simplex). s.theory) rest)) given
+
+pub means_same : (entry mid : Sharing Simplex) → mid ≡ record entry { graph = mid.graph }
+    → HasMore (senses_in entry.theory) (senses_in mid.theory)
+means_same entry mid rest =
+    more_none (senses_in entry.theory) (senses_in mid.theory)
+    (ap (λ (s : Sharing Simplex). senses_in s.theory) rest)
+
+pub means_more : (entry mid new : Sharing Simplex) → mid ≡ record entry { graph = mid.graph }
+    → (terms : List Term) → AddsMade (senses_in mid.theory) (senses_in new.theory) terms
+    → HasMore (senses_in entry.theory) (senses_in new.theory)
+means_more entry mid new rest terms adds =
+    more_both (senses_in entry.theory) (senses_in mid.theory) (senses_in new.theory)
+    (means_same entry mid rest) (adds.more, adds.made)
 
 pub sound_same : (entry mid : Sharing Simplex) → mid ≡ record entry { graph = mid.graph }
     → IsSimplex entry.theory → IsSimplex mid.theory

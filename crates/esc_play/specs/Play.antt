@@ -47,6 +47,10 @@ abbrev pub GivesMore : Simplex → Simplex → Formula → Type 0
 GivesMore v w f = (formulas : List Formula) → Contains formulas f → IsGivenBy formulas v
     → IsGivenBy formulas w
 
+-- more came behind the others
+abbrev pub HasMore : {X : Type 0} → List X → List X → Type 0
+HasMore {X = X} old new = (more : List X) × (new ≡ old ++ more)
+
 -- ---- when it stops
 
 -- the literals ask for the same gaps as those that were asserted

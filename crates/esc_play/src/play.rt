@@ -4,12 +4,12 @@ ghost use Rattle.std.specs.Prelude.{◌≡◌, IfErr, IsTrue};
 ghost use Rattle.esc_term.specs.Formula.{is_closed};
 ghost use Rattle.esc_trail.specs.Undo.{Notes};
 ghost use Rattle.esc_simplex.specs.SimplexUndo.{simplex_undo};
-ghost use Rattle.esc_simplex.specs.View.{IsSimplex};
+ghost use Rattle.esc_simplex.specs.View.{IsSimplex, senses_in};
 ghost use Rattle.esc_sharing.specs.Shared.{IsShared};
 ghost use Rattle.esc_sharing.specs.SharingUndo.{part_carried, sharing_undo};
 ghost use Rattle.esc_sharing.specs.Stops.{UnlessMemory};
 ghost use Rattle.esc_outcome.specs.JamLaws.{shared_in};
-ghost use Rattle.esc_play.specs.Play.{GivesMore, PlayEnds, StopsPlay};
+ghost use Rattle.esc_play.specs.Play.{GivesMore, HasMore, PlayEnds, StopsPlay};
 
 use crate::walk::add_formula;
 use esc_distinct::CarriesGroups;
@@ -34,6 +34,7 @@ pub fn put_in_play<R: CarriesNodes + CarriesGroups + CarriesShare + Carries<Simp
     ensures ends { PlayEnds (shared_in sharing.old) (shared_in sharing.new) formula.now result }
     ensures given { GivesMore sharing.old.theory sharing.new.theory formula.now }
     ensures sound { IsSimplex sharing.new.theory }
+    ensures means { HasMore (senses_in sharing.old.theory) (senses_in sharing.new.theory) }
     ensures limit { sharing.new.theory.limit ≡ sharing.old.theory.limit }
     ensures stop { IfErr result
         (UnlessMemory (StopsPlay sharing.old sharing.new formula.now)) }

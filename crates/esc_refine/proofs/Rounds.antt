@@ -9,11 +9,13 @@ use Rattle.esc_trail.specs.Undo.{Notes}
 use Rattle.esc_trail.proofs.Noting.{notes_both, notes_nothing}
 use Rattle.esc_egraph.specs.declared.state.State.{State}
 use Rattle.esc_egraph.specs.declared.state.State.TheVariants.{Open, Closed}
+use Rattle.esc_simplex.specs.View.{senses_in}
 use Rattle.esc_simplex.specs.declared.stop.Stop.{Stop}
 use Rattle.esc_simplex.specs.declared.stop.Stop.TheVariants as stop
 use Rattle.esc_outcome.specs.Tree.{IsOccurrence}
 use Rattle.esc_outcome.specs.TreeLaws.{occurrences_in}
 use Rattle.esc_outcome.proofs.Counting.{AllPairs-map, different_few}
+use Rattle.esc_play.proofs.MoreBehind.{more_both, more_none}
 use Rattle.esc_book.specs.Book.{IsLiveOccurrence}
 use Rattle.esc_clause.specs.ClauseContext.{ClauseContext}
 use Rattle.esc_clause.specs.Refinement.{is_same_place}
@@ -37,6 +39,7 @@ GoesOn-none v = record {
   book = refl;
   literals = ([], sym (append-nil v.literals));
   decisions = ([], sym (append-nil v.clauses.decisions));
+  means = more_none (senses_in v.sharing.theory) (senses_in v.sharing.theory) refl;
   limit = refl;
 }
 
@@ -58,6 +61,8 @@ GoesOn-then u v w a b = record {
     more_behind u.clauses.decisions v.clauses.decisions w.clauses.decisions a.decisions.0
         b.decisions.0 a.decisions.1 b.decisions.1,
   );
+  means = more_both (senses_in u.sharing.theory) (senses_in v.sharing.theory)
+      (senses_in w.sharing.theory) a.means b.means;
   limit = b.limit ∙ a.limit;
 }
 
@@ -67,6 +72,7 @@ GoesOn-with_clauses v clauses same = record {
   book = refl;
   literals = ([], sym (append-nil v.literals));
   decisions = ([], same ∙ sym (append-nil v.clauses.decisions));
+  means = more_none (senses_in v.sharing.theory) (senses_in v.sharing.theory) refl;
   limit = refl;
 }
 

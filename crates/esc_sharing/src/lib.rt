@@ -14,6 +14,7 @@ mod nodes;
 mod numbers;
 mod record;
 mod rounds;
+mod rows;
 mod sharing;
 mod steps;
 mod telling;

@@ -9,7 +9,8 @@ use Rattle.esc_sharing.proofs.Becoming.{nodes_for}
 use Rattle.esc_outcome.specs.JamLaws.{shared_in}
 use Rattle.esc_play.specs.WalkingInside.{Brings, arithmetic_of, sides_in}
 use Rattle.esc_play.proofs.Limit.{limit-noted}
-use Rattle.esc_play.proofs.Played.{ends, gives, gives_same, sound_same, stops}
+use Rattle.esc_play.proofs.Played.{ends, gives, gives_same, means_more, means_same}
+use Rattle.esc_play.proofs.Played.{sound_same, stops}
 use Rattle.esc_play.proofs.play.put_in_play.Goals as goal
 
 pub make_arithmetic-requires-clause-nodes : goal.make_arithmetic-requires-clause-nodes
@@ -67,6 +68,11 @@ returns-clause-given g c =
     c.as_slice.result.now become c.make_arithmetic.new.self c.make_arithmetic.ensures.keeps
     c.make_arithmetic.ensures.numbers
 
+pub returns-clause-means : goal.returns-clause-means
+returns-clause-means g c =
+    means_more c.args.sharing.now c.add_formula.new.sharing c.make_arithmetic.new.self
+    c.add_formula.ensures.walks.rest _ c.make_arithmetic.ensures.keeps.made
+
 pub returns-clause-limit : goal.returns-clause-limit
 returns-clause-limit g c =
     limit-noted (part_carried g.R.CarriesNodes.carried_node g.R.CarriesGroups.carried_group
@@ -120,6 +126,10 @@ pub returns-in_default-clause-sound : goal.returns-in_default-clause-sound
 returns-in_default-clause-sound g c =
     sound_same c.args.sharing.now c.add_formula.new.sharing c.add_formula.ensures.walks.rest
     c.requires.shared.parts.sound
+
+pub returns-in_default-clause-means : goal.returns-in_default-clause-means
+returns-in_default-clause-means g c =
+    means_same c.args.sharing.now c.add_formula.new.sharing c.add_formula.ensures.walks.rest
 
 pub returns-in_default-clause-limit : goal.returns-in_default-clause-limit
 returns-in_default-clause-limit g c =

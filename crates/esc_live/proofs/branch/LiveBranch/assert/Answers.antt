@@ -2,14 +2,14 @@ use Rattle.std.proofs.Common.{◌≡◌, inl, [], ◌∷◌, Ok, Err, ap, sym, s
 use Rattle.esc_book.specs.Book.{IsLiveOccurrence}
 use Rattle.esc_egraph.specs.declared.state.State.TheVariants as State
 use Rattle.esc_tableau.proofs.RunLaws.{err_is}
-use Rattle.esc_live.specs.Calls.{Ends, HoldsWithFact}
+use Rattle.esc_live.specs.Calls.{Ends, HoldsWithFact, MeansMore}
 use Rattle.esc_live.specs.Promises.{IsGiven}
 use Rattle.esc_live.specs.StandingInside.{Asserts, Brings}
 use Rattle.esc_live.specs.declared.branch.LiveBranch.{LiveBranch}
 use Rattle.esc_live.proofs.FactCalls.{brought_book, brought_decisions, brought_literals}
 use Rattle.esc_live.proofs.FactCalls.{brought_logged, brought_new, brought_stop, brought_terms}
 use Rattle.esc_live.proofs.FactCalls.{brought_there, default_rest, fact, fact_there, steps_decisions}
-use Rattle.esc_live.proofs.FactCalls.{steps_literals, steps_live, steps_logged, went_given}
+use Rattle.esc_live.proofs.FactCalls.{steps_literals, steps_live, steps_logged, steps_means, went_given}
 use Rattle.esc_live.proofs.FactCalls.{went_limit}
 use Rattle.esc_live.proofs.FactLive.{brought_ends, fact_went, standing_went, whole_went}
 use Rattle.esc_live.proofs.LiveNotes.{live_both}
@@ -135,6 +135,12 @@ returns-clause-limit c =
 pub returns-clause-given : goal.returns-clause-given
 returns-clause-given c = c.assert_occurrence.ensures.steps.given
 
+pub returns-clause-means : goal.returns-clause-means
+returns-clause-means c =
+    steps_means c.args.self.now c.bring.new.self c.go_live.new.self c.bring.ensures.rest
+    c.go_live.ensures.rest c.go_live.ensures.logged c.assert_occurrence.new.self
+    c.assert_occurrence.ensures.steps c.bring.ensures.means
+
 pub returns-clause-undo : goal.returns-clause-undo
 returns-clause-undo c =
     live_both _ _ _ _ _ _ c.bring.ensures.undo
@@ -229,6 +235,10 @@ returns-in_default-clause-limit c =
 pub returns-in_default-clause-given : goal.returns-in_default-clause-given
 returns-in_default-clause-given c =
     subst IsGiven (sym c.in_default.ensures.err) c.bring.ensures.given
+
+pub returns-in_default-clause-means : goal.returns-in_default-clause-means
+returns-in_default-clause-means c =
+    subst (MeansMore c.args.self.now) (sym c.in_default.ensures.err) c.bring.ensures.means
 
 pub returns-in_default-clause-undo : goal.returns-in_default-clause-undo
 returns-in_default-clause-undo c =

@@ -56,6 +56,7 @@ returns-clause-steps c =
     c.requires.open (literal_is (logged c.args.self.now) c.args.at c.requires.literal)
     c.book_laws.ensures.stays c.push_literal.new.self c.share.new.self c.in-Ok.ensures.ok
     c.share.ensures.rest c.share.ensures.sound c.share.ensures.given c.share.ensures.limit
+    c.share.ensures.means
 
 pub returns-clause-undo : goal.returns-clause-undo
 returns-clause-undo c =

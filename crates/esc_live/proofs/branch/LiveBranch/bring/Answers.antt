@@ -42,6 +42,9 @@ returns-clause-given c = record {
       c.requires.given.given;
 }
 
+pub returns-clause-means : goal.returns-clause-means
+returns-clause-means c = c.put_in_play.ensures.means
+
 pub returns-clause-undo : goal.returns-clause-undo
 returns-clause-undo c =
     shared_notes c.args.self.now _ _ c.put_in_play.new.sharing c.put_in_play.ensures.undo

@@ -3,7 +3,8 @@ use Rattle.esc_book.specs.Atom.{IsAtomOf}
 use Rattle.esc_book.specs.declared.atom.Atom.TheVariants as atom
 use Rattle.esc_clause.specs.Occurrences.{formula_at}
 use Rattle.esc_sharing.specs.Literals.{AreSides, item_of}
-use Rattle.esc_simplex.specs.View.{numbers_in}
+use Rattle.esc_simplex.specs.View.{numbers_in, senses_in}
+use Rattle.esc_play.proofs.MoreBehind.{more_none}
 use Rattle.esc_live.specs.StandingInside.{ShareEnds}
 use Rattle.esc_live.specs.View.{logged}
 use Rattle.esc_live.proofs.LiveNotes.{live_nothing, shared_notes}
@@ -49,6 +50,10 @@ returns-in-Equal-clause-given c =
     stays_given c.args.self.now.sharing c.assert_literal.new.self c.assert_literal.ensures.numbers
     c.assert_literal.ensures.made
 
+pub returns-in-Equal-clause-means : goal.returns-in-Equal-clause-means
+returns-in-Equal-clause-means c =
+    (c.assert_literal.ensures.made.more, c.assert_literal.ensures.made.made)
+
 pub returns-in-Equal-clause-limit : goal.returns-in-Equal-clause-limit
 returns-in-Equal-clause-limit c =
     limit_noted _ _ c.args.self.now _
@@ -87,6 +92,10 @@ pub returns-in-Less-clause-given : goal.returns-in-Less-clause-given
 returns-in-Less-clause-given c =
     stays_given c.args.self.now.sharing c.assert_literal-in-Less.new.self
     c.assert_literal-in-Less.ensures.numbers c.assert_literal-in-Less.ensures.made
+
+pub returns-in-Less-clause-means : goal.returns-in-Less-clause-means
+returns-in-Less-clause-means c =
+    (c.assert_literal-in-Less.ensures.made.more, c.assert_literal-in-Less.ensures.made.made)
 
 pub returns-in-Less-clause-limit : goal.returns-in-Less-clause-limit
 returns-in-Less-clause-limit c =
@@ -129,6 +138,10 @@ returns-in-Distinct-clause-given c =
     stays_given c.args.self.now.sharing c.assert_group.new.self c.assert_group.ensures.numbers
     c.assert_group.ensures.made
 
+pub returns-in-Distinct-clause-means : goal.returns-in-Distinct-clause-means
+returns-in-Distinct-clause-means c =
+    (c.assert_group.ensures.made.more, c.assert_group.ensures.made.made)
+
 pub returns-in-Distinct-clause-limit : goal.returns-in-Distinct-clause-limit
 returns-in-Distinct-clause-limit c =
     limit_noted _ _ c.args.self.now _
@@ -149,6 +162,11 @@ returns-in-Quantified-clause-comes c =
 
 pub returns-in-Quantified-clause-given : goal.returns-in-Quantified-clause-given
 returns-in-Quantified-clause-given c = λ fs by. by
+
+pub returns-in-Quantified-clause-means : goal.returns-in-Quantified-clause-means
+returns-in-Quantified-clause-means c =
+    more_none (senses_in c.args.self.now.sharing.theory) (senses_in c.args.self.now.sharing.theory)
+    refl
 
 pub returns-in-Quantified-clause-undo : goal.returns-in-Quantified-clause-undo
 returns-in-Quantified-clause-undo c =
