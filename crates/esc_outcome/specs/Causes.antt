@@ -13,7 +13,7 @@ use Rattle.esc_simplex.specs.declared.stop.Stop.{Stop}
 use Rattle.esc_simplex.specs.declared.stop.Stop.TheVariants as stop
 use Rattle.esc_outcome.specs.Grown.{Grown}
 use Rattle.esc_outcome.specs.Jam.{IsJam}
-use Rattle.esc_outcome.specs.Tree.{IsOccurrence, IsUndecidedAt, formulas_at}
+use Rattle.esc_outcome.specs.Tree.{IsFree, IsOccurrence, IsUndecidedAt, formulas_at}
 use Rattle.esc_outcome.specs.declared.branch.Branch.{Branch}
 use Rattle.esc_outcome.specs.declared.branch.Cause.{Cause}
 use Rattle.esc_outcome.specs.declared.branch.Cause.TheVariants as cause
@@ -57,12 +57,13 @@ pub record IsStuck (base : Base) (limits : Limits) (branch : Branch) (stuck : St
 
 -- ---- splits
 
--- there are as many splits as may be, and this one could come
+-- there are as many splits as may be, and this one could come where the branch is
 pub record IsOutOfSplits (base : Base) (limits : Limits) (branch : Branch) (next : Occurrence) :
     Type 0 where
   pub grown : Grown base limits.depth branch
   pub legal : IsLegal base branch.log
   pub spent : length branch.splits ≡ limits.splits
+  pub free : IsFree branch.splits branch.under
   pub next_there : IsOccurrence (formulas_of base branch.log) next
   pub next_new : IsUndecidedAt branch.splits branch.under next
 

@@ -101,6 +101,7 @@ module _ (base : Base) (s : Search) (os : List OpenSplit) (search : IsSearch bas
           grown = search.grown;
           legal = subst (IsLegal base) (sym search.log) (first_legal base);
           spent = omega (arith, spent, search.few);
+          free = search.free;
           next_there = split_there base s os search open_here at splits_at;
           next_new = split_new base s os search open_here at splits_at;
         };
