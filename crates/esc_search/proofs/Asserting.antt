@@ -6,7 +6,8 @@ use Rattle.std.specs.Prelude.{IsSome, IsSomeAnd, slice_get}
 use Rattle.std.specs.List.{All, Contains, cons_option, filter_map, range_with_len}
 use Rattle.std.specs.Option.{option_map}
 use Rattle.std.proofs.lemmas.List.{length_push}
-use Rattle.std.proofs.lemmas.List.Elements.{All-contains, All-head, All-push, filter_map-append}
+use Rattle.std.proofs.lemmas.List.Elements.{All-contains, All-head, All-push, All-take}
+use Rattle.std.proofs.lemmas.List.Elements.{filter_map-append}
 use Rattle.std.proofs.lemmas.List.FromFn.{get_or-range_with_len}
 use Rattle.std.proofs.lemmas.Option.{slice_get-get_or}
 use Rattle.esc_term.specs.declared.formula.Formula.{Formula}
@@ -35,11 +36,11 @@ use Rattle.esc_live.specs.declared.branch.LiveBranch.{LiveBranch}
 use Rattle.esc_live.specs.declared.record.LiveRec.{LiveRec}
 use Rattle.esc_sharing.proofs.Lists.{All-append_left, All-append_right}
 use Rattle.esc_search.specs.Proving.{branch_of, decided_on, live_facts}
-use Rattle.esc_search.specs.SearchInside.{Begins, IsBegun, IsHalted, IsLogged, said_on}
+use Rattle.esc_search.specs.SearchInside.{GoesLive, IsBegun, IsHalted, said_on}
 use Rattle.esc_search.specs.declared.search.Search.{Search}
 use Rattle.esc_search.proofs.FrontFacts.{begun_grown, range_push}
-use Rattle.esc_search.proofs.LiveFacts.{All-filter_map, filter_map-read, first_named, length-first}
-use Rattle.esc_search.proofs.LiveFacts.{slice_get-contained}
+use Rattle.esc_search.proofs.LiveFacts.{All-filter_map, filter_map-read, first_named}
+use Rattle.esc_search.proofs.LiveFacts.{length-filter_map, slice_get-contained}
 
 -- ---- whole facts
 
@@ -57,10 +58,16 @@ whole_so M fs place f is holds =
 
 -- ---- one more fact is live
 
-module _ (base : Base) (s : Search) (all_logged : IsLogged base s)
+pub front_named : (base : Base) (s : Search) → IsBegun base s
+    → All (λ f. IsSome (formula_of base f)) s.log
+front_named base s begun = subst (All (λ f. IsSome (formula_of base f))) (sym begun.log)
+    (All-take (λ f. IsSome (formula_of base f)) (length s.log) (first_facts base)
+    (first_named base))
+
+module _ (base : Base) (s : Search) (begun : IsBegun base s)
     (more : length s.branch.book.live < length s.log) where
-  abbrev begun : IsBegun base s
-  begun = all_logged.0
+  named : All (λ f. IsSome (formula_of base f)) s.log
+  named = front_named base s begun
 
   abbrev place : ℕ
   place = length s.branch.book.live
@@ -69,9 +76,7 @@ module _ (base : Base) (s : Search) (all_logged : IsLogged base s)
   fs = logged s.branch
 
   many : length fs ≡ length s.log
-  many = ap length begun.formulas
-      ∙ subst (λ log. length (formulas_of base log) ≡ length log) (sym all_logged.1)
-      (length-first base)
+  many = ap length begun.formulas ∙ length-filter_map (formula_of base) s.log named
 
   pub place_within : place < length fs
   place_within = omega (arith, more, many)
@@ -125,35 +130,31 @@ module _ (base : Base) (s : Search) (all_logged : IsLogged base s)
         ∙ ap (λ o. live_on s.branch ++ cons_option o []) there)
 
     begun_live : w.book.live ≡ s.branch.book.live ++ place ∷ [] → IsBranch w
-        → ((M : Model) → HoldsWithFact s.branch place M → IsSoundIn M w) → IsLogged base asserted
-    begun_live e branch sound = (
-      record {
-        log = begun.log;
-        formulas = formulas;
-        live =
-            let longer : suc place ≡ length w.book.live =
-            omega (arith, ap length e, length_push s.branch.book.live place) in
-            let last : 0 + place ≡ place = omega arith in
-            e ∙ (ap (λ (ks : List ℕ). ks ++ place ∷ []) begun.live
-            ∙ (ap (λ k. range_with_len 0 place ++ k ∷ []) (sym last) ∙ sym (range_push 0 place)))
-            ∙ ap (range_with_len 0) longer;
-        few = omega (arith, more, ap length e, length_push s.branch.book.live place);
-        sides = begun.sides;
-        splits = begun.splits;
-        under = begun.under;
-        branch = branch;
-        given = given;
-        sound = λ M all. sound M (so M (subst (AllTrue (read_in M)) (live_more e) all));
-        limit = same_limit ∙ begun.limit;
-      },
-      all_logged.1,
-    )
+        → ((M : Model) → HoldsWithFact s.branch place M → IsSoundIn M w) → IsBegun base asserted
+    begun_live e branch sound = record {
+      log = begun.log;
+      formulas = formulas;
+      live =
+          let longer : suc place ≡ length w.book.live =
+          omega (arith, ap length e, length_push s.branch.book.live place) in
+          let last : 0 + place ≡ place = omega arith in
+          e ∙ (ap (λ (ks : List ℕ). ks ++ place ∷ []) begun.live
+          ∙ (ap (λ k. range_with_len 0 place ++ k ∷ []) (sym last) ∙ sym (range_push 0 place)))
+          ∙ ap (range_with_len 0) longer;
+      few = omega (arith, more, ap length e, length_push s.branch.book.live place);
+      sides = begun.sides;
+      splits = begun.splits;
+      under = begun.under;
+      branch = branch;
+      given = given;
+      sound = λ M all. sound M (so M (subst (AllTrue (read_in M)) (live_more e) all));
+      limit = same_limit ∙ begun.limit;
+    }
 
     live_read : live_on w ≡ formulas_of base (live_facts asserted)
     live_read =
         ap (λ gs. filter_map (slice_get gs) w.book.live) formulas
-        ∙ filter_map-read (formula_of base) s.log
-        (subst (All (λ f. IsSome (formula_of base f))) (sym all_logged.1) (first_named base)) w.book.live
+        ∙ filter_map-read (formula_of base) s.log named w.book.live
 
     halted : (why : Stop) → GoesLiveOrNothing s.branch w place → IsStoppedAt w why
         → ((M : Model) → HoldsWithFact s.branch place M → All (HoldsIn M) (literals_on w))
@@ -179,15 +180,13 @@ module _ (base : Base) (s : Search) (all_logged : IsLogged base s)
 
     pub begins : (r : Result State Stop) → Ends w (HoldsWithFact s.branch place) r
         → (r ≡ Ok state.Open → w.book.live ≡ s.branch.book.live ++ place ∷ [])
-        → GoesLiveOrNothing s.branch w place → Begins base asserted r
+        → GoesLiveOrNothing s.branch w place → GoesLive base asserted r
     begins (Ok state.Open) ends live goes = begun_live (live refl) ends.0 ends.1
-    begins (Ok state.Closed) ends live goes = (
-      all_logged.1,
-      Refuted-from_models (formulas_of base s.log) (record {
-        none = λ M all. ends M (so M (from_log M
-            (subst (AllTrue (read_in M)) (sym begun.formulas) all)));
-      }),
-    )
+    begins (Ok state.Closed) ends live goes =
+        Refuted-from_models (formulas_of base s.log) (record {
+          none = λ M all. ends M (so M (from_log M
+              (subst (AllTrue (read_in M)) (sym begun.formulas) all)));
+        })
     begins (Err stop.Memory) ends live goes = tt
     begins (Err (stop.Spill j)) ends live goes = halted (stop.Spill j) goes ends.0 ends.1
     begins (Err (stop.Form x)) ends live goes = halted (stop.Form x) goes ends.0 ends.1

@@ -254,10 +254,6 @@ module _ (base : Base) where
       go None h = absurd (cc)
       go (Some f) h = refl
 
-  pub some_first : IsSome base.negated → 0 < length (first_facts base)
-  some_first some =
-      omega (arith, ap length (with_goal some), length-append (givens base) (fact.NegGoal ∷ []))
-
   pub goal_next : (n : ℕ) → IsSome base.negated → n ≡ length base.background
       → slice_get (first_facts base) n ≡ Some fact.NegGoal
   goal_next n some last =

@@ -1,11 +1,17 @@
 mod Asserting
+mod BackTo
 mod Climbing
 mod Ending
 mod Following
 mod FrontFacts
+mod Given
 mod GoingBack
+mod LevelEnds
 mod LiveFacts
 mod Reaching
+mod Refined
+mod ReadyAlike
+mod RowsPut
 mod Splitting
 mod Starting
 mod Stopping

@@ -36,6 +36,7 @@ use Rattle.esc_search.specs.SearchInside.{WasDecided, formulas_under, said_on, s
 use Rattle.esc_options.specs.declared.options.Limits.{Limits}
 use Rattle.esc_search.specs.declared.open_split.OpenSplit.{OpenSplit}
 use Rattle.esc_search.specs.declared.search.Search.{Search}
+use Rattle.esc_search.proofs.BackTo.{kept_same, kept_since, since_call}
 use Rattle.esc_search.proofs.LiveFacts.{filter_map-all_places, length-first}
 use Rattle.esc_search.proofs.Waiting.{waits_on}
 
@@ -115,8 +116,9 @@ module _ (base : Base) (s : Search) (w : LiveBranch) (t : Records LiveRec) (os :
     climbs = search.climbs;
   }
 
-  pub kept_on : IsKept base s after
-  kept_on = record { given = given; formulas = search_on.formulas; limits = refl }
+  pub kept_on : IsKept base s os after os
+  kept_on = kept_since base s os after given search_on.formulas refl
+      (since_call s w t notes goes.means (ap (λ (b : BookView). b.logged) goes.book))
 
   module _ (So : Model → Type 0)
       (so : (M : Model) → AllTrue (read_in M) (formulas_under base s s.under) → So M) where
@@ -143,40 +145,28 @@ module _ (base : Base) (s : Search) (w : LiveBranch) (t : Records LiveRec) (os :
 
 -- ---- one call after another
 
-pub kept_both : (base : Base) (a b c : Search) → IsKept base a b → IsKept base b c
-    → IsKept base a c
-kept_both base a b c first second = record {
-  given = second.given;
-  formulas = second.formulas;
-  limits = second.limits ∙ first.limits;
-}
-
 pub kept_here : (base : Base) (s : Search) (os : List OpenSplit) → IsSearch base s os
-    → IsKept base s s
-kept_here base s os search = record {
-  given = search.given;
-  formulas = search.formulas;
-  limits = refl;
-}
+    → IsKept base s os s os
+kept_here base s os search = kept_same base s os search.given search.formulas
 
 -- an open split less
-pub nearer_back : (base : Base) (s t : Search) (os ps : List OpenSplit) → IsKept base s t
-    → t.splits ≡ s.splits → length os ≡ length ps + 1 → steps_left t ps < steps_left s os
+pub nearer_back : {xs ys : List OpenSplit} (base : Base) (s t : Search) (os ps : List OpenSplit)
+    → IsKept base s xs t ys → t.splits ≡ s.splits → length os ≡ length ps + 1 → steps_left t ps < steps_left s os
 nearer_back base s t os ps kept splits waits =
     let limit = ap (λ (l : Limits). l.splits) kept.limits in
     let same = ap length splits in
     omega (arith, limit, same, waits)
 
 -- nothing but the branch
-pub steps_kept : (base : Base) (s t : Search) (os : List OpenSplit) (n : ℕ) → IsKept base s t
-    → t.splits ≡ s.splits → steps_left s os < n → steps_left t os < n
+pub steps_kept : {xs ys : List OpenSplit} (base : Base) (s t : Search) (os : List OpenSplit) (n : ℕ)
+    → IsKept base s xs t ys → t.splits ≡ s.splits → steps_left s os < n → steps_left t os < n
 steps_kept base s t os n kept splits below =
     let limit = ap (λ (l : Limits). l.splits) kept.limits in
     let same = ap length splits in
     omega (arith, limit, same, below)
 
-pub steps_same : (base : Base) (s t : Search) (os : List OpenSplit) → IsKept base s t
-    → t.splits ≡ s.splits → steps_left t os ≡ steps_left s os
+pub steps_same : {xs ys : List OpenSplit} (base : Base) (s t : Search) (os : List OpenSplit)
+    → IsKept base s xs t ys → t.splits ≡ s.splits → steps_left t os ≡ steps_left s os
 steps_same base s t os kept splits =
     let limit = ap (λ (l : Limits). l.splits) kept.limits in
     let same = ap length splits in

@@ -1,5 +1,6 @@
 -- What a search comes to.
-use Rattle.std.specs.Prelude.{◌≡◌, ◌<◌, ◌++◌, List, [], Some, None, length, map, slice_get, take}
+use Rattle.std.specs.Prelude.{◌≡◌, ◌≤◌, ◌+◌, ◌-◌, ◌^◌, ℕ, min, List, [], ◌∷◌, ◌++◌, Some, None}
+use Rattle.std.specs.Prelude.{length, map, slice_get, take}
 use Rattle.std.specs.List.{filter_map, range_with_len}
 use Rattle.std.specs.Option.{IsSome}
 use Rattle.esc_term.specs.declared.formula.Formula.{Formula}
@@ -12,6 +13,7 @@ use Rattle.esc_fact.specs.Fact.{formulas_of}
 use Rattle.esc_fact.specs.Legal.{IsClosedBase, IsLegal, first_facts}
 use Rattle.esc_fact.specs.declared.base.Base.{Base}
 use Rattle.esc_fact.specs.declared.fact.Fact.{Fact}
+use Rattle.esc_fact.specs.declared.fact.Fact.TheVariants.{Given}
 use Rattle.esc_live.specs.Promises.{IsBranch, IsGiven, IsSoundIn}
 use Rattle.esc_live.specs.View.{judge_on, literals_on, live_on, logged}
 use Rattle.esc_outcome.specs.Causes.{AllFollow, IsCause}
@@ -26,6 +28,7 @@ use Rattle.esc_refine.specs.Refining.{IsDone, IsQuiet}
 use Rattle.esc_search.specs.declared.outcome.Outcome.{Outcome}
 use Rattle.esc_search.specs.declared.outcome.Outcome.TheVariants as outcome
 use Rattle.esc_search.specs.declared.search.Search.{Search}
+use Rattle.esc_search.specs.declared.tally.Tally.{Tally}
 
 -- the facts that are live on the branch at hand, in the order in which they became live
 abbrev pub live_facts : Search → List Fact
@@ -44,7 +47,7 @@ decided_on base s = path_formulas (formulas_of base s.log) s.splits s.under
 -- a front of the background is asserted, and nothing else
 pub record IsReady (base : Base) (s : Search) : Type 0 where
   pub log : s.log ≡ take (length s.log) (first_facts base)
-  pub without_goal : length s.log < length (first_facts base)
+  pub without_goal : length s.log ≤ length base.background
   pub formulas : logged s.branch ≡ formulas_of base s.log
   -- each fact of it is live, and was added at the root
   pub live : s.branch.book.live ≡ range_with_len 0 (length s.log)
@@ -55,6 +58,12 @@ pub record IsReady (base : Base) (s : Search) : Type 0 where
   pub given : IsGiven s.branch
   pub sound : (M : Model) → AllTrue (read_in M) (live_on s.branch) → IsSoundIn M s.branch
   pub limit : s.branch.sharing.theory.limit ≡ s.limits.pivots
+
+-- what is ready for one base is ready for each other one whose background has the same front
+abbrev pub ReadyIsAlike : Type 0
+ReadyIsAlike = (base other : Base) (s : Search)
+    → take (length s.log) other.background ≡ take (length s.log) base.background
+    → length s.log ≤ length other.background → IsReady base s → IsReady other s
 
 -- ---- after
 
@@ -97,3 +106,35 @@ ComesTo base s outcome.Closed = IsRefutedLog base s
 ComesTo base s outcome.Open = IsLeftOpen base s
 ComesTo base s (outcome.Stopped cause) = IsStopped base s cause
 ComesTo base s outcome.Memory = Unit {0}
+
+-- ---- one more formula of the background
+
+-- a cause of the arithmetic
+abbrev pub IsOfArithmetic : Cause → Type 0
+IsOfArithmetic (cause.Overflow branch stuck) = Unit {0}
+IsOfArithmetic (cause.Pivots branch stuck) = Unit {0}
+IsOfArithmetic (cause.Splits branch next) = ⊥
+
+-- Open where it is asserted too, Closed where the formulas so far are refuted
+abbrev pub GivenEnds : Base → Search → Outcome → Type 0
+GivenEnds base s outcome.Open = IsReady base s
+GivenEnds base s outcome.Closed = Refuted (formulas_of base s.log)
+GivenEnds base s (outcome.Stopped why) = IsStopped base s why × IsOfArithmetic why
+GivenEnds base s outcome.Memory = Unit {0}
+
+-- the fact that names it was logged, but where memory is wanting
+abbrev pub LogsGiven : List Fact → List Fact → Outcome → Type 0
+LogsGiven old new outcome.Memory = Unit {0}
+LogsGiven old new _ = new ≡ old ++ Given (length old) ∷ []
+
+-- ---- how many searches came to each answer
+
+-- one more, at most the greatest
+abbrev pub one_more : ℕ → ℕ
+one_more n = min (n + 1) (2 ^ 64 - 1)
+
+abbrev pub tallied : Tally → Outcome → Tally
+tallied t outcome.Closed = record t { closed = one_more t.closed }
+tallied t outcome.Open = record t { left_open = one_more t.left_open }
+tallied t (outcome.Stopped why) = record t { stopped = one_more t.stopped }
+tallied t outcome.Memory = t

@@ -27,20 +27,32 @@ use Rattle.esc_live.specs.declared.record.LiveRec.{LiveRec}
 use Rattle.esc_outcome.specs.Grown.{Grown, IsDoneIn}
 use Rattle.esc_outcome.specs.Tree.{IsFree, Side, formulas_at, path_of}
 use Rattle.esc_outcome.specs.declared.branch.Split.{Split}
-use Rattle.esc_search.specs.Proving.{ComesTo, branch_of, decided_on, live_facts}
+use Rattle.esc_search.specs.Levels.{GoesBackTo}
+use Rattle.esc_search.specs.Proving.{ComesTo, IsOfArithmetic, branch_of, decided_on}
+use Rattle.esc_search.specs.Proving.{live_facts}
 use Rattle.esc_search.specs.declared.open_split.OpenSplit.{OpenSplit}
+use Rattle.esc_search.specs.declared.outcome.Outcome.{Outcome}
+use Rattle.esc_search.specs.declared.outcome.Outcome.TheVariants as outcome
 use Rattle.esc_search.specs.declared.search.Search.{Search}
 use Rattle.esc_search.specs.declared.step.Step.{Step}
 use Rattle.esc_search.specs.declared.step.Step.TheVariants as step
 
 -- ---- what holds always
 
--- the formulas of the branch are those of the log, its arithmetic is given by them, and the limits
--- are as they were
-pub record IsKept (base : Base) (old new : Search) : Type 0 where
+-- each open split was made behind where the search is to go back to
+abbrev pub IsBehind : Search → List OpenSplit → Type 0
+IsBehind t waiting = All (λ o. length t.trail.records ≤ o.mark) waiting
+
+-- the formulas of the branch are those of the log, its arithmetic is given by them, limits and tally
+-- are as they were, and what the search could go back to, before all open splits, it still can
+pub record IsKept (base : Base) (old : Search) (before : List OpenSplit) (new : Search)
+    (after : List OpenSplit) : Type 0 where
   pub given : IsGiven new.branch
   pub formulas : logged new.branch ≡ formulas_of base new.log
   pub limits : new.limits ≡ old.limits
+  pub tally : new.tally ≡ old.tally
+  pub levels : (t : Search) → IsBehind t before → GoesBackTo old t
+      → GoesBackTo new t × IsBehind t after
 
 -- the formulas of the live facts with what was decided on the way
 abbrev pub said_on : Base → Search → List Formula
@@ -59,6 +71,13 @@ pub record IsHalted (base : Base) (s : Search) (why : Stop) : Type 0 where
 abbrev pub HaltsUnlessMemory : Base → Search → Stop → Type 0
 HaltsUnlessMemory base s stop.Memory = Unit {0}
 HaltsUnlessMemory base s why = IsHalted base s why
+
+-- want of memory, or a cause of the arithmetic
+abbrev pub IsArithmeticStop : Outcome → Type 0
+IsArithmeticStop outcome.Closed = ⊥
+IsArithmeticStop outcome.Open = ⊥
+IsArithmeticStop (outcome.Stopped why) = IsOfArithmetic why
+IsArithmeticStop outcome.Memory = Unit {0}
 
 -- ---- at the beginning
 
@@ -79,6 +98,18 @@ pub record IsBegun (base : Base) (s : Search) : Type 0 where
 -- all of them are logged
 abbrev pub IsLogged : Base → Search → Type 0
 IsLogged base s = IsBegun base s × (s.log ≡ first_facts base)
+
+-- the next formula of the background is logged, and all others of the log are live
+pub record IsLoggedNext (base : Base) (s : Search) : Type 0 where
+  pub begun : IsBegun base s
+  pub last : length s.log ≡ length s.branch.book.live + 1
+  pub without_goal : length s.log ≤ length base.background
+
+-- at Open the next fact is live, and at Closed the log is refuted
+abbrev pub GoesLive : Base → Search → Result State Stop → Type 0
+GoesLive base s (Ok state.Open) = IsBegun base s
+GoesLive base s (Ok state.Closed) = Refuted (formulas_of base s.log)
+GoesLive base s (Err why) = HaltsUnlessMemory base s why
 
 -- at Open facts are asserted; at Closed the log is refuted
 abbrev pub Begins : Base → Search → Result State Stop → Type 0

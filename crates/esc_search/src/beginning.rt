@@ -5,12 +5,16 @@ ghost use Rattle.std.specs.Prelude.{Some};
 ghost use Rattle.std.specs.Option.{IsSome};
 ghost use Rattle.esc_egraph.specs.declared.state.State.TheVariants as state;
 ghost use Rattle.esc_fact.specs.Legal.{IsClosedBase, first_facts};
-ghost use Rattle.esc_search.specs.Proving.{IsReady};
-ghost use Rattle.esc_search.specs.SearchInside.{Begins, IsBegun, IsKept, IsLogged};
+ghost use Rattle.esc_fact.specs.declared.fact.Fact.TheVariants.{Given};
+ghost use Rattle.esc_search.specs.Proving.{GivenEnds, IsReady, LogsGiven};
+ghost use Rattle.esc_search.specs.SearchInside.{Begins, GoesLive, IsBegun, IsKept, IsLogged};
+ghost use Rattle.esc_search.specs.SearchInside.{IsLoggedNext};
 
+use crate::outcome::Outcome;
 use crate::search::Search;
 use esc_egraph::State;
 use esc_fact::{Base, Fact, fact_laws, formula_of};
+use esc_refine::refine;
 use esc_simplex::Stop;
 use std::alloc::AllocError;
 
@@ -36,7 +40,8 @@ impl Search {
         requires next { slice_get (first_facts base.now) (length self.old.log) ≡ Some fact }
         ensures begun { OnOk result (IsBegun base.now self.new) }
         ensures log { OnOk result (self.new.log ≡ self.old.log ++ fact ∷ []) }
-        ensures kept { IsKept base.now self.old self.new }
+        ensures live { self.new.branch.book.live ≡ self.old.branch.book.live }
+        ensures kept { IsKept base.now self.old [] self.new [] }
     {
         fact_laws();
         let len = self.count();
@@ -58,9 +63,9 @@ impl Search {
         requires closed { IsClosedBase base.now }
         requires goal { IsSome base.now.negated }
         requires begun { IsBegun base.now self.old }
-        requires without_goal { length self.old.log < length (first_facts base.now) }
+        requires without_goal { length self.old.log ≤ length base.now.background }
         ensures logged { OnOk result (IsLogged base.now self.new) }
-        ensures kept { IsKept base.now self.old self.new }
+        ensures kept { IsKept base.now self.old [] self.new [] }
     {
         'background: while self.count() < base.background.len() {
             let place = self.count();
@@ -70,18 +75,48 @@ impl Search {
     }
 
     /// Asserts the next fact of the log, which stands at this place.
-    fn assert_next(&mut self, base: &Base, place: usize) -> Result<State, Stop>
-        requires logged { IsLogged base.now self.old }
+    fn go_live(&mut self, base: &Base, place: usize) -> Result<State, Stop>
+        requires begun { IsBegun base.now self.old }
         requires place { place ≡ length self.old.branch.book.live }
         requires more { length self.old.branch.book.live < length self.old.log }
-        ensures begins { Begins base.now self.new result }
+        ensures goes { GoesLive base.now self.new result }
         ensures live { result ≡ Ok state.Open → length self.new.branch.book.live
             ≡ length self.old.branch.book.live + 1 }
         ensures log { self.new.log ≡ self.old.log }
-        ensures kept { IsKept base.now self.old self.new }
+        ensures kept { IsKept base.now self.old [] self.new [] }
     {
         let _base = base;
         self.branch.assert(place, &mut self.trail)
+    }
+
+    /// Refines the branch at hand.
+    fn refine_begun(&mut self, base: &Base) -> Result<State, Stop>
+        requires begun { IsBegun base.now self.old }
+        ensures goes { GoesLive base.now self.new result }
+        ensures live { self.new.branch.book.live ≡ self.old.branch.book.live }
+        ensures log { self.new.log ≡ self.old.log }
+        ensures kept { IsKept base.now self.old [] self.new [] }
+    {
+        let _base = base;
+        refine(&mut self.branch, &mut self.trail)
+    }
+
+    /// Asserts the next fact of the log, which stands at this place, and refines the branch.
+    fn assert_next(&mut self, base: &Base, place: usize) -> Result<State, Stop>
+        requires begun { IsBegun base.now self.old }
+        requires place { place ≡ length self.old.branch.book.live }
+        requires more { length self.old.branch.book.live < length self.old.log }
+        ensures goes { GoesLive base.now self.new result }
+        ensures live { result ≡ Ok state.Open → length self.new.branch.book.live
+            ≡ length self.old.branch.book.live + 1 }
+        ensures log { self.new.log ≡ self.old.log }
+        ensures kept { IsKept base.now self.old [] self.new [] }
+    {
+        match self.go_live(base, place) {
+            Ok(State::Open) => self.refine_begun(base),
+            Ok(State::Closed) => Ok(State::Closed),
+            Err(stop) => Err(stop),
+        }
     }
 
     /// Asserts the facts of the log.
@@ -90,7 +125,7 @@ impl Search {
         ensures begins { Begins base.now self.new result }
         ensures live { result ≡ Ok state.Open → length self.new.log
             ≤ length self.new.branch.book.live }
-        ensures kept { IsKept base.now self.old self.new }
+        ensures kept { IsKept base.now self.old [] self.new [] }
     {
         'facts: while self.live_count() < self.count() {
             let place = self.live_count();
@@ -103,6 +138,50 @@ impl Search {
         Ok(State::Open)
     }
 
+    /// Logs the fact that names the next formula of the background. It fails only where memory is
+    /// wanting.
+    fn log_given(&mut self, base: &Base) -> Result<(), AllocError>
+        requires closed { IsClosedBase base.now }
+        requires ready { IsReady base.now self.old }
+        requires more { length self.old.log < length base.now.background }
+        ensures logged { OnOk result (IsLoggedNext base.now self.new) }
+        ensures log { OnOk result (self.new.log ≡ self.old.log ++ Given (length self.old.log) ∷ []) }
+        ensures kept { IsKept base.now self.old [] self.new [] }
+    {
+        let place = self.count();
+        self.log_first(base, Fact::Given(place as u64))
+    }
+
+    /// Asserts the last fact of the log, behind all others.
+    fn assert_given_next(&mut self, base: &Base) -> Outcome
+        requires logged { IsLoggedNext base.now self.old }
+        ensures ends { GivenEnds base.now self.new result }
+        ensures log { self.new.log ≡ self.old.log }
+        ensures kept { IsKept base.now self.old [] self.new [] }
+    {
+        let place = self.live_count();
+        match self.assert_next(base, place) {
+            Ok(State::Open) => Outcome::Open,
+            Ok(State::Closed) => Outcome::Closed,
+            Err(stop) => self.stopped_by(base, stop),
+        }
+    }
+
+    /// Logs the next formula of the background, and asserts it.
+    pub(crate) fn begin_given(&mut self, base: &Base) -> Outcome
+        requires closed { IsClosedBase base.now }
+        requires ready { IsReady base.now self.old }
+        requires more { length self.old.log < length base.now.background }
+        ensures ends { GivenEnds base.now self.new result }
+        ensures log { LogsGiven self.old.log self.new.log result }
+        ensures kept { IsKept base.now self.old [] self.new [] }
+    {
+        match self.log_given(base) {
+            Ok(()) => self.assert_given_next(base),
+            Err(_) => Outcome::Memory,
+        }
+    }
+
     /// Logs and asserts the facts that name a formula of the base.
     pub(crate) fn begin(&mut self, base: &Base) -> Result<State, Stop>
         requires closed { IsClosedBase base.now }
@@ -111,7 +190,7 @@ impl Search {
         ensures begins { Begins base.now self.new result }
         ensures live { result ≡ Ok state.Open → length self.new.log
             ≤ length self.new.branch.book.live }
-        ensures kept { IsKept base.now self.old self.new }
+        ensures kept { IsKept base.now self.old [] self.new [] }
     {
         match self.log_all(base) {
             Ok(()) => self.assert_all(base),

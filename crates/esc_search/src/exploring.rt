@@ -38,7 +38,7 @@ impl Search {
         requires ready { IsToDecide base.now self.old at holds }
         ensures reaches { Reaches base.now self.new waiting.now result }
         ensures splits { self.new.splits ≡ self.old.splits }
-        ensures kept { IsKept base.now self.old self.new }
+        ensures kept { IsKept base.now self.old waiting.now self.new waiting.now }
     {
         let _base = base;
         let _waiting = waiting;
@@ -51,7 +51,7 @@ impl Search {
         ensures reaches { Reaches base.now self.new waiting.now result }
         ensures quiet { result ≡ Ok state.Open → IsQuiet self.new.branch }
         ensures splits { self.new.splits ≡ self.old.splits }
-        ensures kept { IsKept base.now self.old self.new }
+        ensures kept { IsKept base.now self.old waiting.now self.new waiting.now }
     {
         let _base = base;
         let _waiting = waiting;
@@ -72,7 +72,7 @@ impl Search {
         ensures ready { OnOk result (IsToDecide base.now self.new at true) }
         ensures nearer { OnOk result (steps_left self.new waiting.new
             < steps_left self.old waiting.old) }
-        ensures kept { IsKept base.now self.old self.new }
+        ensures kept { IsKept base.now self.old waiting.old self.new waiting.new }
     {
         let _base = base;
         let number = self.splits.len() as u64;
@@ -97,7 +97,8 @@ impl Search {
         ensures search { IsSearch base.now self.new waiting.now }
         ensures ready { IsToDecide base.now self.new last.split.at false }
         ensures splits { self.new.splits ≡ self.old.splits }
-        ensures kept { IsKept base.now self.old self.new }
+        ensures kept { IsKept base.now self.old (waiting.now ++ last ∷ []) self.new
+            waiting.now }
     {
         let _base = base;
         let _waiting = waiting;
@@ -126,7 +127,7 @@ impl Search {
         ensures steps { StepsTo base.now self.new waiting.now result }
         ensures nearer { (before : ℕ) → steps_left self.old waiting.now < before
             → IsNearer before (steps_left self.new waiting.now) result }
-        ensures kept { IsKept base.now self.old self.new }
+        ensures kept { IsKept base.now self.old waiting.now self.new waiting.now }
     {
         let reached = self.decide(base, at, holds, waiting);
         self.go_from(base, waiting, reached)
@@ -141,7 +142,7 @@ impl Search {
         ensures steps { StepsTo base.now self.new waiting.new result }
         ensures nearer { IsNearer (steps_left self.old waiting.old) (steps_left self.new waiting.new)
             result }
-        ensures kept { IsKept base.now self.old self.new }
+        ensures kept { IsKept base.now self.old waiting.old self.new waiting.new }
     {
         if self.splits.len() as u64 >= self.limits.splits {
             return Step::Ends(answered(self.out_of_splits(base, waiting, at)));
@@ -158,7 +159,7 @@ impl Search {
         ensures steps { StepsTo base.now self.new waiting.new result }
         ensures nearer { IsNearer (steps_left self.old waiting.old) (steps_left self.new waiting.new)
             result }
-        ensures kept { IsKept base.now self.old self.new }
+        ensures kept { IsKept base.now self.old waiting.old self.new waiting.new }
     {
         match waiting.pop() {
             None => Step::Ends(Outcome::Closed),
@@ -177,7 +178,7 @@ impl Search {
         ensures steps { StepsTo base.now self.new waiting.new result }
         ensures nearer { IsNearer (steps_left self.old waiting.old) (steps_left self.new waiting.new)
             result }
-        ensures kept { IsKept base.now self.old self.new }
+        ensures kept { IsKept base.now self.old waiting.old self.new waiting.new }
     {
         match next_split(&self.branch) {
             None => Step::Ends(Outcome::Open),
@@ -191,7 +192,7 @@ impl Search {
         ensures steps { StepsTo base.now self.new waiting.new result }
         ensures nearer { IsNearer (steps_left self.old waiting.old) (steps_left self.new waiting.new)
             result }
-        ensures kept { IsKept base.now self.old self.new }
+        ensures kept { IsKept base.now self.old waiting.old self.new waiting.new }
     {
         match self.refine_here(base, waiting) {
             Ok(State::Open) => self.go_on_refined(base, waiting),
@@ -205,7 +206,7 @@ impl Search {
         ensures steps { StepsTo base.now self.new waiting.new result }
         ensures nearer { IsNearer (steps_left self.old waiting.old) (steps_left self.new waiting.new)
             result }
-        ensures kept { IsKept base.now self.old self.new }
+        ensures kept { IsKept base.now self.old waiting.old self.new waiting.new }
     {
         match state {
             State::Open => self.go_on(base, waiting),
@@ -217,7 +218,7 @@ impl Search {
     pub(crate) fn explore(&mut self, base: &Base) -> Outcome
         requires here { IsAt base.now self.old [] state.Open }
         ensures comes { ComesTo base.now self.new result }
-        ensures kept { IsKept base.now self.old self.new }
+        ensures kept { IsKept base.now self.old [] self.new [] }
     {
         let mut waiting = Items::new(self.alloc);
         let mut state = State::Open;

@@ -7,9 +7,11 @@ ghost use Rattle.esc_live.specs.View.{judge_on, literals_on};
 ghost use Rattle.esc_outcome.specs.Causes.{is_endless, is_overflow};
 ghost use Rattle.esc_outcome.specs.JamLaws.{stuck_with};
 ghost use Rattle.esc_refine.specs.Refining.{IsQuiet, SplitsAt};
-ghost use Rattle.esc_search.specs.Proving.{ComesTo, IsStopped, branch_of, live_facts};
+ghost use Rattle.esc_search.specs.Proving.{ComesTo, IsOfArithmetic, IsStopped, branch_of};
+ghost use Rattle.esc_search.specs.Proving.{live_facts};
 ghost use Rattle.esc_search.specs.declared.search.Search.{Search as Searches};
-ghost use Rattle.esc_search.specs.SearchInside.{HaltsUnlessMemory, IsHalted, IsOpenHere, IsSearch};
+ghost use Rattle.esc_search.specs.SearchInside.{HaltsUnlessMemory, IsArithmeticStop, IsHalted};
+ghost use Rattle.esc_search.specs.SearchInside.{IsOpenHere, IsSearch};
 
 use crate::open_split::OpenSplits;
 use crate::outcome::Outcome;
@@ -78,7 +80,8 @@ impl Search {
     fn overflowed(&self, base: &Base, stop: Stop) -> Result<Cause, AllocError>
         requires halted { IsHalted base.now self.now stop }
         requires overflow { IsTrue (is_overflow stop) }
-        ensures { IfOk result (λ cause. IsStopped base.now self.now cause) }
+        ensures stopped { IfOk result (IsStopped base.now self.now) }
+        ensures arithmetic { IfOk result IsOfArithmetic }
     {
         let branch = self.kept()?;
         let stuck = self.stuck(base, stop)?;
@@ -89,7 +92,8 @@ impl Search {
     fn unended(&self, base: &Base, stop: Stop) -> Result<Cause, AllocError>
         requires halted { IsHalted base.now self.now stop }
         requires endless { IsTrue (is_endless stop) }
-        ensures { IfOk result (λ cause. IsStopped base.now self.now cause) }
+        ensures stopped { IfOk result (IsStopped base.now self.now) }
+        ensures arithmetic { IfOk result IsOfArithmetic }
     {
         let branch = self.kept()?;
         let stuck = self.stuck(base, stop)?;
@@ -99,7 +103,8 @@ impl Search {
     /// What is answered where the arithmetic stopped.
     pub(crate) fn stopped_by(&self, base: &Base, stop: Stop) -> Outcome
         requires { HaltsUnlessMemory base.now self.now stop }
-        ensures { ComesTo base.now self.now result }
+        ensures comes { ComesTo base.now self.now result }
+        ensures arithmetic { IsArithmeticStop result }
     {
         match stop {
             Stop::Memory => Outcome::Memory,
@@ -133,8 +138,9 @@ impl Search {
 
 /// The cause, or want of memory.
 pub(crate) fn answered(cause: Result<Cause, AllocError>) -> Outcome
-    ensures { (base : Bases) (s : Searches) → IfOk cause (IsStopped base s)
+    ensures comes { (base : Bases) (s : Searches) → IfOk cause (IsStopped base s)
         → ComesTo base s result }
+    ensures arithmetic { IfOk cause IsOfArithmetic → IsArithmeticStop result }
 {
     match cause {
         Ok(cause) => Outcome::Stopped(cause),

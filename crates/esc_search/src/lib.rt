@@ -5,10 +5,17 @@
 mod beginning;
 mod exploring;
 mod keeping;
+mod laws;
+mod level;
+mod levels;
 mod open_split;
 mod outcome;
 mod search;
 mod step;
+mod tally;
 
+pub use laws::search_laws;
+pub use level::Level;
 pub use outcome::Outcome;
 pub use search::Search;
+pub use tally::Tally;

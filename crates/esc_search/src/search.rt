@@ -1,20 +1,26 @@
 //! A search for a refutation, through the branches that splits make.
 
-ghost use Rattle.std.specs.Prelude.{◌≡◌, IfOk};
+ghost use Rattle.std.specs.Prelude.{◌≡◌, ◌<◌, [], length, IfOk};
 ghost use Rattle.std.specs.Option.{IsSome};
 ghost use Rattle.esc_fact.specs.Fact.{formulas_of};
 ghost use Rattle.esc_fact.specs.Legal.{IsClosedBase};
 ghost use Rattle.esc_fact.specs.declared.base.Base.{Base as Bases};
 ghost use Rattle.esc_live.specs.Promises.{IsGiven};
 ghost use Rattle.esc_live.specs.View.{logged};
-ghost use Rattle.esc_search.specs.Proving.{ComesTo, IsReady};
+ghost use Rattle.esc_search.specs.Levels.{KeepsLevels};
+ghost use Rattle.esc_search.specs.Proving.{ComesTo, GivenEnds, IsReady, LogsGiven, tallied};
+ghost use Rattle.esc_search.specs.SearchInside.{IsKept};
 
 use crate::outcome::Outcome;
+use crate::tally::Tally;
+use esc_clause::Occurrence;
 use esc_egraph::State;
 use esc_fact::{Base, Fact, FactLog, Facts};
 use esc_live::{LiveBranch, LiveRec};
 use esc_options::Limits;
 use esc_outcome::{Side, Sides, Splits};
+use esc_sharing::Sharing;
+use esc_simplex::Simplex;
 use esc_term::{Copied, Formulas};
 use esc_trail::Trail;
 use sqlite_items::Items;
@@ -32,14 +38,16 @@ pub struct Search {
     pub(crate) splits: Splits,
     pub(crate) under: Side,
     pub(crate) limits: Limits,
+    pub(crate) tally: Tally,
 }
 
 impl Search {
     /// A search that has not begun. It fails only where memory is wanting.
     pub fn new(alloc: Global, limits: Limits) -> Result<Search, AllocError>
-        ensures ready { IfOk result (λ s. (base : Bases) → IsClosedBase base
-            → IsSome base.negated → IsReady base s) }
+        ensures ready { IfOk result (λ s. (base : Bases) → IsReady base s) }
         ensures limits { IfOk result (λ s. s.limits ≡ limits) }
+        ensures tally { IfOk result (λ s. s.tally
+            ≡ record { closed = 0; left_open = 0; stopped = 0 }) }
     {
         Ok(Search {
             alloc,
@@ -50,7 +58,43 @@ impl Search {
             splits: Items::new(alloc),
             under: None,
             limits,
+            tally: Tally {
+                closed: 0,
+                left_open: 0,
+                stopped: 0,
+            },
         })
+    }
+
+    /// Asserts the next formula of the background, behind those that are asserted, and refines.
+    pub fn assert_given(&mut self, base: &Base) -> Outcome
+        requires closed { IsClosedBase base.now }
+        requires ready { IsReady base.now self.old }
+        requires more { length self.old.log < length base.now.background }
+        ensures ends { GivenEnds base.now self.new result }
+        ensures log { LogsGiven self.old.log self.new.log result }
+        ensures given { IsGiven self.new.branch }
+        ensures formulas { logged self.new.branch ≡ formulas_of base.now self.new.log }
+        ensures levels { KeepsLevels self.old self.new }
+        ensures limits { self.new.limits ≡ self.old.limits }
+        ensures tally { self.new.tally ≡ self.old.tally }
+    {
+        self.begin_given(base)
+    }
+
+    /// Searches for a refutation of the base, and leaves the tally.
+    fn seek(&mut self, base: &Base) -> Outcome
+        requires closed { IsClosedBase base.now }
+        requires goal { IsSome base.now.negated }
+        requires ready { IsReady base.now self.old }
+        ensures comes { ComesTo base.now self.new result }
+        ensures kept { IsKept base.now self.old [] self.new [] }
+    {
+        match self.begin(base) {
+            Ok(State::Open) => self.explore(base),
+            Ok(State::Closed) => Outcome::Closed,
+            Err(stop) => self.stopped_by(base, stop),
+        }
     }
 
     /// Searches for a refutation of the base, a front of whose background may be asserted already.
@@ -61,13 +105,20 @@ impl Search {
         ensures comes { ComesTo base.now self.new result }
         ensures given { IsGiven self.new.branch }
         ensures formulas { logged self.new.branch ≡ formulas_of base.now self.new.log }
+        ensures levels { KeepsLevels self.old self.new }
         ensures limits { self.new.limits ≡ self.old.limits }
+        ensures tally { self.new.tally ≡ tallied self.old.tally result }
     {
-        match self.begin(base) {
-            Ok(State::Open) => self.explore(base),
-            Ok(State::Closed) => Outcome::Closed,
-            Err(stop) => self.stopped_by(base, stop),
-        }
+        let outcome = self.seek(base);
+        self.tally.raise(&outcome);
+        outcome
+    }
+
+    /// How many calls of `prove` came to each answer.
+    pub fn tally(&self) -> Tally
+        ensures { result ≡ self.now.tally }
+    {
+        self.tally
     }
 
     /// The facts that were used, in order.
@@ -77,6 +128,28 @@ impl Search {
         self.log.list()
     }
 
+    /// The side of the tree at which each of them was added.
+    pub fn sides(&self) -> &[Side]
+        ensures { result.now ≡ self.now.sides }
+    {
+        self.sides.as_slice()
+    }
+
+    /// The literals of the branch at hand, as occurrences, in the order in which they were
+    /// asserted.
+    pub fn literals(&self) -> &[Occurrence]
+        ensures { result.now ≡ self.now.branch.literals }
+    {
+        self.branch.literals.as_slice()
+    }
+
+    /// What the literals of the branch at hand come to.
+    pub fn sharing(&self) -> &Sharing<Simplex>
+        ensures { result.now ≡ self.now.branch.sharing }
+    {
+        &self.branch.sharing
+    }
+
     /// The branch at hand.
     pub fn branch(&self) -> &LiveBranch
         ensures { result.now ≡ self.now.branch }
@@ -84,13 +157,21 @@ impl Search {
         &self.branch
     }
 
+    /// The facts of the log and their formulas. It fails only where memory is wanting.
+    pub fn used(&self) -> Result<(Facts, Formulas), AllocError>
+        ensures { IfOk result (λ pair. (pair.0 ≡ self.now.log)
+            × (pair.1 ≡ logged self.now.branch)) }
+    {
+        let facts = self.facts()?;
+        let formulas = self.branch.book.formulas().copied(self.alloc)?;
+        Ok((facts, formulas))
+    }
+
     /// Ends the search, and gives the facts of its log and their formulas. It fails only where
     /// memory is wanting.
     pub fn into_log(self) -> Result<(Facts, Formulas), AllocError>
         ensures { IfOk result (λ pair. (pair.0 ≡ self.log) × (pair.1 ≡ logged self.branch)) }
     {
-        let facts = self.facts()?;
-        let formulas = self.branch.book.formulas().copied(self.alloc)?;
-        Ok((facts, formulas))
+        self.used()
     }
 }

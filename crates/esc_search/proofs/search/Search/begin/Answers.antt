@@ -1,5 +1,5 @@
 use Rattle.esc_search.proofs.FrontFacts.{begun_ready}
-use Rattle.esc_search.proofs.Reaching.{kept_both}
+use Rattle.esc_search.proofs.BackTo.{kept_both}
 use Rattle.esc_search.proofs.search.Search.begin.Goals as goal
 
 pub log_all-requires-clause-begun : goal.log_all-requires-clause-begun

@@ -1,14 +1,17 @@
-use Rattle.std.proofs.Common.{subst, sym}
+use Rattle.std.proofs.Common.{[], subst, sym}
 use Rattle.esc_egraph.specs.declared.state.State.TheVariants as state
-use Rattle.esc_search.specs.SearchInside.{IsAt}
-use Rattle.esc_search.proofs.Reaching.{kept_both, kept_here}
+use Rattle.esc_search.specs.SearchInside.{IsAt, IsKept}
+use Rattle.esc_search.proofs.BackTo.{kept_both}
+use Rattle.esc_search.proofs.Reaching.{kept_here}
 use Rattle.esc_search.proofs.search.Search.explore.Goals as goal
 
 pub steps-init : goal.steps-init
 steps-init c = record {
   here = subst (λ os. IsAt c.args.base.now c.args.self.now os state.Open)
       (sym c.new-waiting.ensures) c.requires.here;
-  kept = kept_here c.args.base.now c.args.self.now _ c.requires.here.0;
+  kept = subst (λ os. IsKept c.args.base.now c.args.self.now [] c.args.self.now os)
+      (sym c.new-waiting.ensures)
+      (kept_here c.args.base.now c.args.self.now [] c.requires.here.0);
 }
 
 pub steps-preserved : goal.steps-preserved

@@ -1,9 +1,10 @@
-use Rattle.std.proofs.Common.{ap, length, subst, ◌∙◌}
+use Rattle.std.proofs.Common.{ap, length, subst, sym, ◌∙◌}
 use Rattle.std.proofs.lemmas.List.{length_push}
 use Rattle.esc_egraph.specs.declared.state.State.TheVariants as state
-use Rattle.esc_search.specs.SearchInside.{IsAt, IsSearch, steps_left}
+use Rattle.esc_search.specs.SearchInside.{IsAt, IsKept, IsSearch, steps_left}
 use Rattle.esc_search.proofs.Ending.{refuted_log}
-use Rattle.esc_search.proofs.Reaching.{kept_both, kept_here, nearer_back}
+use Rattle.esc_search.proofs.BackTo.{kept_both}
+use Rattle.esc_search.proofs.Reaching.{kept_here, nearer_back}
 use Rattle.esc_search.proofs.search.Search.go_back.Goals as goal
 
 pub returns-in-None-clause-steps : goal.returns-in-None-clause-steps
@@ -14,7 +15,9 @@ returns-in-None-clause-steps c =
 
 pub returns-in-None-clause-kept : goal.returns-in-None-clause-kept
 returns-in-None-clause-kept c =
-    kept_here c.args.base.now c.args.self.now c.args.waiting.now c.requires.here.0
+    subst (IsKept c.args.base.now c.args.self.now c.args.waiting.now c.args.self.now)
+    (c.in-None.ensures.0 ∙ sym c.in-None.ensures.1)
+    (kept_here c.args.base.now c.args.self.now c.args.waiting.now c.requires.here.0)
 
 pub other_side-requires : goal.other_side-requires
 other_side-requires c = record {
@@ -31,5 +34,7 @@ returns-in-Some-clause-nearer c =
 
 pub returns-in-Some-clause-kept : goal.returns-in-Some-clause-kept
 returns-in-Some-clause-kept c =
-    kept_both c.args.base.now c.args.self.now c.other_side.new.self c.take_side.new.self
-    c.other_side.ensures.kept c.take_side.ensures.kept
+    subst (λ os. IsKept c.args.base.now c.args.self.now os c.take_side.new.self c.pop.new.self)
+    (sym c.in-Some.ensures)
+    (kept_both c.args.base.now c.args.self.now c.other_side.new.self c.take_side.new.self
+    c.other_side.ensures.kept c.take_side.ensures.kept)

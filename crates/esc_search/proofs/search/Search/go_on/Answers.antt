@@ -1,6 +1,7 @@
 use Rattle.std.proofs.Common.{subst}
 use Rattle.esc_search.specs.SearchInside.{IsNearer, steps_left}
-use Rattle.esc_search.proofs.Reaching.{kept_both, steps_same}
+use Rattle.esc_search.proofs.BackTo.{kept_both}
+use Rattle.esc_search.proofs.Reaching.{steps_same}
 use Rattle.esc_search.proofs.search.Search.go_on.Goals as goal
 
 pub returns-in-Ok-Open-clause-nearer : goal.returns-in-Ok-Open-clause-nearer

@@ -1,21 +1,33 @@
-use Rattle.std.proofs.Common.{arith, ap, length, refl, subst, sym, ◌≡◌, ◌∙◌, Some, ℕ}
+use Rattle.std.proofs.Common.{[], arith, ap, length, refl, subst, sym, ◌≡◌, ◌∙◌, Some, ℕ}
 use Rattle.std.specs.Prelude.{slice_get}
 use Rattle.std.proofs.lemmas.List.{length_push}
 use Rattle.esc_fact.specs.Legal.{first_facts}
 use Rattle.esc_fact.specs.declared.fact.Fact.TheVariants as fact
-use Rattle.esc_search.proofs.FrontFacts.{first_count, given_next, goal_next, logged_last}
-use Rattle.esc_search.proofs.Reaching.{kept_both}
+use Rattle.esc_search.proofs.FrontFacts.{given_next, goal_next, logged_last}
+use Rattle.esc_search.proofs.BackTo.{kept_both, kept_same}
 use Rattle.esc_search.proofs.search.Search.log_all.Goals as goal
 
 pub background-init : goal.background-init
 background-init c = record {
   begun = c.requires.begun;
-  few = omega (arith, c.requires.without_goal, first_count c.args.base.now c.requires.goal);
-  kept = record {
-    given = c.requires.begun.given;
-    formulas = c.requires.begun.formulas;
-    limits = refl;
-  };
+  few = c.requires.without_goal;
+  kept = kept_same c.args.base.now c.args.self.now [] c.requires.begun.given
+      c.requires.begun.formulas;
+}
+
+pub background-preserved : goal.background-preserved
+background-preserved c = record {
+  begun = c.in_ok-log_first.ensures.begun;
+  few = omega (
+    arith,
+    c.background-test.true,
+    c.count.ensures,
+    c.len.ensures,
+    ap length c.in_ok-log_first.ensures.log,
+    length_push c.background.self.log (fact.Given c.count-place.result),
+  );
+  kept = kept_both c.args.base.now c.args.self.now c.background.self c.log_first.new.self
+      c.background.invariant.kept c.log_first.ensures.kept;
 }
 
 pub log_first-requires-clause-next : goal.log_first-requires-clause-next

@@ -1,23 +1,13 @@
-use Rattle.std.proofs.Common.{Ok, ap, subst, ◌∙◌}
-use Rattle.esc_egraph.specs.declared.state.State.{State}
-use Rattle.esc_search.specs.SearchInside.{Begins}
-use Rattle.esc_search.proofs.Starting.{refuted_first, search_starts}
+use Rattle.esc_search.proofs.Given.{back_tallied, comes_tallied, levels_kept}
 use Rattle.esc_search.proofs.search.Search.prove.Goals as goal
 
-pub explore-requires : goal.explore-requires
-explore-requires c = record {
-  here = search_starts c.args.base.now c.begin.new.self c.requires.closed
-      (subst (λ (x : State). Begins c.args.base.now c.begin.new.self (Ok x))
-      c.in-Ok-Open.field-0-is c.in-Ok-Open.ensures.begins)
-      (c.in-Ok-Open.ensures.live (ap Ok c.in-Ok-Open.field-0-is));
-}
+pub returns-clause-comes : goal.returns-clause-comes
+returns-clause-comes c =
+    comes_tallied c.args.base.now c.seek-outcome.new.self c.raise.new.self c.seek-outcome.result
+    c.seek-outcome.ensures.comes
 
-pub returns-in-Ok-Closed-clause-comes : goal.returns-in-Ok-Closed-clause-comes
-returns-in-Ok-Closed-clause-comes c =
-    let is = subst (λ (x : State). Begins c.args.base.now c.begin.new.self (Ok x))
-    c.in-Ok-Closed.field-0-is c.in-Ok-Closed.ensures.begins in
-    refuted_first c.args.base.now c.begin.new.self is.0 is.1
-
-pub returns-in-Ok-Open-clause-limits : goal.returns-in-Ok-Open-clause-limits
-returns-in-Ok-Open-clause-limits c =
-    c.explore.ensures.kept.limits ∙ c.begin.ensures.kept.limits
+pub returns-clause-levels : goal.returns-clause-levels
+returns-clause-levels c t back =
+    back_tallied c.seek-outcome.new.self c.raise.new.self t
+    (levels_kept c.args.base.now c.args.self.now c.seek-outcome.new.self
+    c.seek-outcome.ensures.kept t back)

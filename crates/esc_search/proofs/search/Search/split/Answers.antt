@@ -1,5 +1,5 @@
 use Rattle.esc_search.specs.SearchInside.{steps_left}
-use Rattle.esc_search.proofs.Reaching.{kept_both}
+use Rattle.esc_search.proofs.BackTo.{kept_both}
 use Rattle.esc_search.proofs.search.Search.split.Goals as goal
 
 pub returns-in-Ok-clause-nearer : goal.returns-in-Ok-clause-nearer
