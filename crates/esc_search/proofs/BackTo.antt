@@ -6,7 +6,7 @@ use Rattle.std.proofs.Common.{length-append}
 use Rattle.std.specs.List.{All}
 use Rattle.std.proofs.Math.Seq.{drop-append-add, take-append-add}
 use Rattle.std.proofs.lemmas.List.{take-append-drop}
-use Rattle.std.proofs.lemmas.List.Elements.{All-contains, All-push, Contains-push}
+use Rattle.std.proofs.lemmas.List.Elements.{All-contains, All-nil, All-push, Contains-push}
 use Rattle.esc_trail.specs.Records.{Records}
 use Rattle.esc_trail.specs.Undo.{CanRewind, Notes, rewind}
 use Rattle.esc_trail.proofs.Noting.{notes_nothing}
@@ -277,6 +277,20 @@ kept_both base a b c first second = record {
 }
 
 -- where the search went to the other side of the last open split
+-- where no split is open any more
+pub kept_ended : (base : Base) (a b : Search) (os : List OpenSplit) → IsKept base a [] b os
+    → IsKept base a [] b []
+kept_ended base a b os kept = record {
+  given = kept.given;
+  formulas = kept.formulas;
+  limits = kept.limits;
+  tally = kept.tally;
+  levels = λ t behind back. (
+    (kept.levels t behind back).0,
+    All-nil (λ (o : OpenSplit). length t.trail.records ≤ o.mark),
+  );
+}
+
 pub behind_front : (t : Search) (os : List OpenSplit) (o : OpenSplit) → IsBehind t (os ++ o ∷ [])
     → IsBehind t os × (length t.trail.records ≤ o.mark)
 behind_front t os o behind = (

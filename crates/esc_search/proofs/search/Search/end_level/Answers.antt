@@ -60,7 +60,7 @@ returns-clause-back c =
     back_at c.args.self.now c.args.level _ c.live_laws.ensures.rewound c.requires.returns.given
     (record {
       same = cut_same c.pop_to.new.state (rewound_to c.args.self.now c.args.level)
-          c.put_rows.new.sharing c.cut.new.self c.args.level.formulas c.pop_to.ensures.rewound
+          c.put_rows.new.self c.cut.new.self c.args.level.formulas c.pop_to.ensures.rewound
           c.put_rows.ensures.rest c.put_rows.ensures.same c.cut.ensures.cut;
       rows = ap (λ (x : Simplex). x.tableau) c.put_rows.ensures.rows;
       made = ap (λ (x : Simplex). x.made) c.put_rows.ensures.rows

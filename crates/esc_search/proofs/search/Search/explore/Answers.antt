@@ -1,7 +1,7 @@
 use Rattle.std.proofs.Common.{[], subst, sym}
 use Rattle.esc_egraph.specs.declared.state.State.TheVariants as state
 use Rattle.esc_search.specs.SearchInside.{IsAt, IsKept}
-use Rattle.esc_search.proofs.BackTo.{kept_both}
+use Rattle.esc_search.proofs.BackTo.{kept_both, kept_ended}
 use Rattle.esc_search.proofs.Reaching.{kept_here}
 use Rattle.esc_search.proofs.search.Search.explore.Goals as goal
 
@@ -23,5 +23,6 @@ steps-preserved c = record {
 
 pub returns-in-Ends-clause-kept : goal.returns-in-Ends-clause-kept
 returns-in-Ends-clause-kept c =
-    kept_both c.args.base.now c.args.self.now c.steps.self c.step.new.self
-    c.steps.invariant.kept c.step.ensures.kept
+    kept_ended c.args.base.now c.args.self.now c.step.new.self c.step.new.waiting
+    (kept_both c.args.base.now c.args.self.now c.steps.self c.step.new.self
+    c.steps.invariant.kept c.step.ensures.kept)
