@@ -1,5 +1,6 @@
 -- What holds of answers.
-use Rattle.std.specs.Prelude.{◌≡◌, ◌<◌, ◌^◌, IsTrue}
+use Rattle.std.specs.Prelude.{◌≡◌, ◌<◌, ◌^◌, IsTrue, List}
+use Rattle.std.specs.List.{list_all}
 use Rattle.esc_term.specs.declared.formula.Formula.{Formula}
 use Rattle.esc_term.specs.Refuted.{Refuted}
 use Rattle.esc_fact.specs.Base.{formulas_in}
@@ -16,44 +17,57 @@ use Rattle.esc_report.specs.declared.report.Report.TheVariants as report
 use Rattle.esc_answers.specs.Answers.{Answers}
 use Rattle.esc_answers.specs.State.{State}
 
--- the negated goal is refuted
-abbrev pub IsRefutedGoal : Formula → Type 0
-IsRefutedGoal goal = Refuted (formulas_in (base_of goal))
+-- the negated goal is refuted with what is assumed
+abbrev pub IsRefutedGoal : List Formula → Formula → Type 0
+IsRefutedGoal assumed goal = Refuted (formulas_in (base_of assumed goal))
+
+-- ---- what is assumed
+
+-- each formula that is assumed is of a form that is answered
+abbrev pub IsSupportedState : State → Type 0
+IsSupportedState s = IsTrue (list_all is_supported s.assumed)
+
+-- and stays so
+abbrev pub StatesAreSupported : Type 0
+StatesAreSupported = (s t : State) (command : Command) (limits : Limits) (r : Report)
+    → Answers s command limits r t → IsSupportedState s → IsSupportedState t
 
 -- ---- goals that are answered
 
--- where it is said to be valid, its negation is refuted
-abbrev pub IsSoundOf : Formula → Report → Type 0
-IsSoundOf goal (report.Valid number log formulas) = IsRefutedGoal goal
-IsSoundOf goal r = Unit {0}
+-- where it is said to be valid, its negation is refuted with what is assumed
+abbrev pub IsSoundOf : List Formula → Formula → Report → Type 0
+IsSoundOf assumed goal (report.Valid number log formulas) = IsRefutedGoal assumed goal
+IsSoundOf assumed goal r = Unit {0}
 
 abbrev pub AnswersAreSound : Type 0
 AnswersAreSound =
     (s t : State) (command : Command) (limits : Limits) (r : Report) (goal : Formula)
-    → Answers s command limits r t → command.kind ≡ Goal goal → IsTrue (is_supported goal)
-    → IsSoundOf goal r
+    → Answers s command limits r t → command.kind ≡ Goal goal → IsSupportedState s
+    → IsTrue (is_supported goal) → IsSoundOf s.assumed goal r
 
 -- ---- goals without arithmetic
 
--- the splits ran out, and fewer are allowed than a tree over the occurrences of the goal can have
-abbrev pub IsShortOfSplits : Formula → Limits → Cause → Type 0
-IsShortOfSplits goal limits (cause.Splits branch next) =
-    limits.splits < 2 ^ occurrences_in (formulas_in (base_of goal))
-IsShortOfSplits goal limits (cause.Overflow branch stuck) = ⊥
-IsShortOfSplits goal limits (cause.Pivots branch stuck) = ⊥
+-- the splits ran out, and fewer are allowed than a tree over the occurrences of the goal and of what
+-- is assumed can have
+abbrev pub IsShortOfSplits : List Formula → Formula → Limits → Cause → Type 0
+IsShortOfSplits assumed goal limits (cause.Splits branch next) =
+    limits.splits < 2 ^ occurrences_in (formulas_in (base_of assumed goal))
+IsShortOfSplits assumed goal limits (cause.Overflow branch stuck) = ⊥
+IsShortOfSplits assumed goal limits (cause.Pivots branch stuck) = ⊥
 
--- it is said to be valid where its negation is refuted, and to be invalid where it is not, unless
--- memory or splits are wanting
-abbrev pub IsSharpOf : Formula → Limits → Report → Type 0
-IsSharpOf goal limits (report.Valid number log formulas) = IsRefutedGoal goal
-IsSharpOf goal limits (report.Invalid number found) = IsRefutedGoal goal → ⊥
-IsSharpOf goal limits (report.Unknown number why) = IsShortOfSplits goal limits why
-IsSharpOf goal limits (report.Memory number place) = Unit {0}
-IsSharpOf goal limits (report.Refused place why) = ⊥
-IsSharpOf goal limits report.Done = ⊥
+-- it is said to be valid where its negation is refuted with what is assumed, and to be invalid where
+-- it is not, unless memory or splits are wanting
+abbrev pub IsSharpOf : List Formula → Formula → Limits → Report → Type 0
+IsSharpOf assumed goal limits (report.Valid number log formulas) = IsRefutedGoal assumed goal
+IsSharpOf assumed goal limits (report.Invalid number found) = IsRefutedGoal assumed goal → ⊥
+IsSharpOf assumed goal limits (report.Unknown number why) =
+    IsShortOfSplits assumed goal limits why
+IsSharpOf assumed goal limits (report.Memory number place) = Unit {0}
+IsSharpOf assumed goal limits (report.Refused place why) = ⊥
+IsSharpOf assumed goal limits report.Done = ⊥
 
 abbrev pub AnswersAreSharp : Type 0
 AnswersAreSharp =
     (s t : State) (command : Command) (limits : Limits) (r : Report) (goal : Formula)
-    → Answers s command limits r t → command.kind ≡ Goal goal → IsFreeGoal goal
-    → IsSharpOf goal limits r
+    → Answers s command limits r t → command.kind ≡ Goal goal → IsFreeGoal s.assumed goal
+    → IsSharpOf s.assumed goal limits r

@@ -1,6 +1,6 @@
 -- From goals that are answered nothing is drawn.
 use Rattle.std.proofs.Common.{◌≡◌, ℕ, Bool, true, false, ◌&&◌, List, [], ◌∷◌, ◌++◌, map, length}
-use Rattle.std.proofs.Common.{append-nil, refl, sym, subst, ap, ap₂, ◌∙◌, inl, inr}
+use Rattle.std.proofs.Common.{refl, sym, subst, ap, ap₂, ◌∙◌, inl, inr}
 use Rattle.std.specs.List.{Contains, flat_map, list_all}
 use Rattle.std.proofs.lemmas.List.Elements.{Contains-append_cases}
 use denote.Hole.Carrier.{roll}
@@ -34,6 +34,8 @@ use Rattle.esc_fact.specs.Fact.{store}
 use Rattle.esc_fact.proofs.Quantifiers.{under-True, under-False, under-And, under-Or, under-Not}
 use Rattle.esc_fact.proofs.Quantifiers.{under-Implies, under-Iff, under-Eq, under-Less}
 use Rattle.esc_fact.proofs.Quantifiers.{under-Distinct, under-LabelPos, under-LabelNeg}
+use Rattle.esc_outcome.specs.PlainLaws.{IsPlain}
+use Rattle.esc_report.specs.Goals.{base_of}
 use Rattle.esc_report.specs.Laws.{SupportedIsPlain}
 use Rattle.esc_report.specs.Supported.{is_plain_head, is_plain_term, is_supported}
 use Rattle.esc_report.proofs.SupportedLevels.{is_plain_term-App}
@@ -248,13 +250,32 @@ plain_outside = ind-Formula PlainOutside Any_quant
 
 -- ---- goals
 
+module _ (assumed : List Formula) (goal : Formula)
+    (supported : list_all is_supported assumed ≡ true) (goal_is : is_supported goal ≡ true) where
+  abbrev with_goal : List Formula
+  with_goal = assumed ++ Not goal ∷ []
+
+  each_plain : (f : Formula) → Contains with_goal f → IsPlainFormula f
+  each_plain f h =
+      elim (Contains-append_cases assumed (Not goal ∷ []) f h) [
+        | inl there ↦ plain_outside f (all_at is_supported assumed f supported there)
+        | inr last ↦
+            elim (Contains-cases (Not goal) [] f last) [
+              | inl same ↦
+                  subst IsPlainFormula same
+                  (plain_outside (Not goal) (is_supported-Not goal ∙ goal_is))
+              | inr none ↦ absurd (Contains-none f none)
+            ]
+      ]
+
+  plain_base : IsPlain (base_of assumed goal)
+  plain_base = record {
+    unquantified = flat_none (λ f. quantified_under f 0) with_goal
+        (λ f h. (each_plain f h).unquantified 0);
+    no_stores = λ m i x h.
+        let found = Contains-flat_map terms_of with_goal (store m i x) h in
+        no_store m i x ((each_plain found.0 found.1).terms (store m i x) found.2);
+  }
+
 pub supported_is_plain : SupportedIsPlain
-supported_is_plain goal supported =
-    let plain = plain_outside (Not goal) (is_supported-Not goal ∙ supported) in
-    record {
-      unquantified = ap (λ qs. qs ++ []) (plain.unquantified 0);
-      no_stores = λ m i x h.
-          no_store m i x (plain.terms (store m i x)
-          (subst (λ (ts : List Term). Contains ts (store m i x))
-          (append-nil (terms_of (Not goal))) h));
-    }
+supported_is_plain = plain_base

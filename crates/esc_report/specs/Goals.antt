@@ -1,5 +1,6 @@
 -- What a search for a goal begins with, and goals without arithmetic.
-use Rattle.std.specs.Prelude.{IsTrue, [], ◌∷◌, Some}
+use Rattle.std.specs.Prelude.{IsTrue, List, [], ◌∷◌, ◌++◌, Some}
+use Rattle.std.specs.List.{list_all}
 use Rattle.esc_term.specs.declared.formula.Formula.{Formula}
 use Rattle.esc_term.specs.declared.formula.Formula.TheVariants.{Not}
 use Rattle.esc_cover.specs.Laws.{is_free_of_arithmetic}
@@ -7,12 +8,17 @@ use Rattle.esc_fact.specs.declared.base.Base.{Base}
 use Rattle.esc_outcome.specs.FreeLaws.{NumeralsAreSmall}
 use Rattle.esc_report.specs.Supported.{is_supported}
 
--- the negated goal; nothing is assumed yet
-abbrev pub base_of : Formula → Base
-base_of goal = record { background = []; negated = Some (Not goal) }
+-- what is assumed, and the negated goal
+abbrev pub base_of : List Formula → Formula → Base
+base_of assumed goal = record { background = assumed; negated = Some (Not goal) }
 
--- a goal that is answered, without sums, differences, products and orders; its numerals are small
-pub record IsFreeGoal (goal : Formula) : Type 0 where
-  pub supported : IsTrue (is_supported goal)
-  pub free : IsTrue (is_free_of_arithmetic goal)
-  pub numerals : NumeralsAreSmall (goal ∷ [])
+-- formulas that are answered, without sums, differences, products and orders; their numerals are
+-- small
+pub record AreFree (fs : List Formula) : Type 0 where
+  pub supported : IsTrue (list_all is_supported fs)
+  pub free : IsTrue (list_all is_free_of_arithmetic fs)
+  pub numerals : NumeralsAreSmall fs
+
+-- so are a goal and what is assumed
+abbrev pub IsFreeGoal : List Formula → Formula → Type 0
+IsFreeGoal assumed goal = AreFree (assumed ++ goal ∷ [])

@@ -14,7 +14,8 @@ use Rattle.esc_options.specs.declared.options.Show.{Show}
 use Rattle.esc_report.specs.FoundText.{found_text}
 use Rattle.esc_report.specs.LogText.{log_text}
 use Rattle.esc_report.specs.declared.report.Refusal.{Refusal}
-use Rattle.esc_report.specs.declared.report.Refusal.TheVariants.{Form, Unsupported}
+use Rattle.esc_report.specs.declared.report.Refusal.TheVariants.{Form, NothingToPop, Redefined}
+use Rattle.esc_report.specs.declared.report.Refusal.TheVariants.{Unsupported}
 use Rattle.esc_report.specs.declared.report.Report.{Report}
 use Rattle.esc_report.specs.declared.report.Report.TheVariants.{Valid, Invalid, Unknown}
 use Rattle.esc_report.specs.declared.report.Report.TheVariants.{Refused, Memory, Done}
@@ -61,6 +62,8 @@ form_text EmptyList = codes "empty list"
 abbrev pub refusal_text : Refusal → List ℕ
 refusal_text (Form kind) = form_text kind
 refusal_text Unsupported = codes "not supported yet"
+refusal_text NothingToPop = codes "nothing to pop"
+refusal_text Redefined = codes "predicate defined already"
 
 unfoldable pub why_line : Refusal → List ℕ
 why_line why = codes ": " ++ (refusal_text why ++ codes ".\n")

@@ -6,8 +6,8 @@ ghost use Rattle.esc_report.specs.PrintingLaws.{PrintedNamesReadBack};
 
 use esc_read::term_laws;
 
-/// From a goal that is answered nothing is drawn. Where it has no arithmetic but small numerals,
-/// its base has none either.
+/// From a goal that is answered and such assumptions nothing is drawn. Where they have no
+/// arithmetic but small numerals, their base has none either.
 pub fn goal_laws()
     ensures plain { SupportedIsPlain }
     ensures free { FreeGoalIsPlainAndFree }

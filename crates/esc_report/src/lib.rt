@@ -13,4 +13,4 @@ mod supported;
 pub use laws::{goal_laws, printing_laws};
 pub use put::put_report;
 pub use report::{Refusal, Report};
-pub use supported::is_supported;
+pub use supported::{are_supported, is_supported};

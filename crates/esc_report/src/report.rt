@@ -12,6 +12,10 @@ pub enum Refusal {
     Form(FormKind),
     /// The prover does not answer this form yet.
     Unsupported,
+    /// No push is in force.
+    NothingToPop,
+    /// A rule for this predicate is in force.
+    Redefined,
 }
 
 /// The answer to a command. Goals are numbered from 1.
@@ -32,8 +36,9 @@ pub enum Report {
         goal: u64,
         cause: Cause,
     },
-    /// The place is that of the first byte of what is wrong, or of the command where its form is
-    /// not answered yet.
+    /// The place is that of the first byte of what is wrong, of the name of a predicate that is
+    /// defined already, or of the command where its form is not answered yet or there is nothing
+    /// to pop.
     Refused {
         place: u64,
         why: Refusal,

@@ -1,4 +1,4 @@
-//! Which goals are answered so far.
+//! Which formulas are answered so far.
 
 ghost use Rattle.std.specs.Prelude.{◌≡◌, length};
 ghost use Rattle.std.specs.List.{list_all};
@@ -6,7 +6,7 @@ ghost use Rattle.esc_report.specs.Supported.{is_plain_head, is_plain_term, is_su
 
 use esc_term::{Formula, Head, Sym, Term};
 
-/// Whether a goal of this formula is answered: it has no quantifier and no write.
+/// Whether the formula is of a form that is answered: it has no quantifier and no write.
 #[cycle(is_supported)]
 #[tactic(auto, using(crate::proofs::SupportedLevels::supported_levels))]
 pub fn is_supported(formula: &Formula) -> bool
@@ -28,8 +28,9 @@ pub fn is_supported(formula: &Formula) -> bool
     }
 }
 
+/// Whether each of the formulas is of a form that is answered.
 #[cycle(is_supported)]
-fn are_supported(formulas: &[Formula]) -> bool
+pub fn are_supported(formulas: &[Formula]) -> bool
     ensures { result ≡ list_all is_supported formulas.now }
 {
     for formula in formulas {

@@ -1,3 +1,4 @@
+use Rattle.esc_answers.proofs.Assuming.{states_are_supported}
 use Rattle.esc_answers.proofs.Told.{answers_are_sharp, answers_are_sound}
 use Rattle.esc_answers.proofs.laws.answer_laws.Goals as goal
 
@@ -6,6 +7,7 @@ returns c =
     let goals = c.goal_laws.ensures in
     let plain = c.plain_laws.ensures in
     record {
+      supported = states_are_supported;
       sound = answers_are_sound plain.valid goals.plain;
-      sharp = answers_are_sharp plain.valid plain.not_refuted plain.splits goals.plain goals.free;
+      sharp = answers_are_sharp plain.valid plain.not_refuted plain.splits goals.free;
     }

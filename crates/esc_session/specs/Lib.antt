@@ -1,0 +1,6 @@
+pub mod Acts
+pub mod Back
+pub mod Between
+pub mod Counted
+pub mod SessionInside
+pub mod View

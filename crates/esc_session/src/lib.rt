@@ -1,0 +1,13 @@
+//! A session: what is assumed, batch by batch, and the one search that answers all goals.
+#![tactic(auto)]
+
+mod batch;
+mod batches;
+mod command;
+mod goal;
+mod popping;
+mod pushing;
+mod session;
+
+pub use batch::{Batch, Batches, Standing};
+pub use session::Session;
