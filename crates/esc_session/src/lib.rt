@@ -5,9 +5,11 @@ mod batch;
 mod batches;
 mod command;
 mod goal;
+mod laws;
 mod popping;
 mod pushing;
 mod session;
 
 pub use batch::{Batch, Batches, Standing};
+pub use laws::session_laws;
 pub use session::Session;
