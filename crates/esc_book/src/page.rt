@@ -57,7 +57,7 @@ fn search_for(page: &[Entry], place: u64) -> Place
         return Place::Entry(behind - 1);
     }
     match &entry.kind {
-        Kind::Distinction(group) => pair_in(group, place - entry.begin - 1),
+        Kind::Distinction(group) => pair_in(group.get(), place - entry.begin - 1),
         _ => Place::Nowhere,
     }
 }

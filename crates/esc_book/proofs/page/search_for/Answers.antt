@@ -1,6 +1,9 @@
-use Rattle.std.proofs.Common.{rules, of_calls, ◌≡◌, ◌+◌, ◌-◌, nat_le, arith}
+use Rattle.std.proofs.Common.{rules, of_calls, ◌≡◌, ◌+◌, ◌-◌, nat_le, arith, ap, ◌∙◌}
+use Rattle.std.specs.List.{slice_get}
 use Rattle.std.proofs.lemmas.Fn.{always_returns_same}
 use Rattle.std.proofs.lemmas.List.Sorted.{IsPartitionedBy-leb}
+use Rattle.esc_book.specs.GroupInside.{node_pairs}
+use Rattle.esc_book.specs.ReadingInside.{pair_place}
 use Rattle.esc_book.specs.declared.entry.Entry.{Entry}
 use Rattle.esc_book.proofs.Locating.{entry_located, nothing_before, nothing_there, pair_located}
 use Rattle.esc_book.proofs.Locating.{begins_before}
@@ -62,7 +65,9 @@ returns-in-Distinction c g f is =
     pair_located g f c.args.page.now is c.args.place behind split
     c.partition_point-behind.ensures.bound (behind - 1) c.index-page-behind.result last
     c.index-page-behind.is c.in-Distinction.group (c.args.place - begin - 1) c.pair_in.result
-    c.in-Distinction.is parted c.pair_in.ensures
+    c.in-Distinction.is parted
+    (c.pair_in.ensures ∙ ap (λ nodes. pair_place (slice_get (node_pairs nodes)
+    (c.args.place - begin - 1))) c.get.ensures)
 
 pub returns-in_default : goal.returns-in_default
 returns-in_default c g f is =
