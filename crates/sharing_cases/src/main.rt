@@ -25,6 +25,7 @@
 
 ghost use Rattle.sharing_cases.specs.Undoable.{IsUndoable};
 
+mod constants;
 mod end;
 mod script;
 mod tasks;
