@@ -3,6 +3,5 @@ pub mod ConstantNumbers
 pub mod ConstantUndo
 pub mod ConstantValues
 pub mod GroundForms
-pub mod Kept
 pub mod Rising
 pub mod Undoables

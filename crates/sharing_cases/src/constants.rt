@@ -132,7 +132,7 @@ impl Theory for Constants {
         b: Node,
         _trail: &mut Trail<R>,
     ) -> Result<State, Stop> {
-        if self.value(a).num() == self.value(b).num() {
+        if is_one_number(self.value(a), self.value(b)) {
             return Ok(State::Open);
         }
         Ok(State::Closed)
@@ -245,11 +245,18 @@ fn are_missed(graph: &EGraph, first: &Constant, second: &Constant) -> bool
     requires second { second.now.node < node_count graph.now }
     ensures { IsTrue result ↔ AreMissed graph.now first.now second.now }
 {
-    if first.value.num() != second.value.num() {
+    if !is_one_number(first.value, second.value) {
         return false;
     }
     let together = graph.same(first.node, second.node);
     !together
+}
+
+/// Whether two whole numbers are one.
+fn is_one_number(first: Frac, second: Frac) -> bool
+    ensures { IsTrue result ↔ (first.num ≡ second.num) }
+{
+    first.num() == second.num()
 }
 
 /// Open where the gap of two numbers, upper less lower, and less 1 where it is strict, is not

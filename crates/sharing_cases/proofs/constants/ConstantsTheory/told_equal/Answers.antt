@@ -1,15 +1,15 @@
-use Rattle.std.proofs.Common.{sym, ◌∙◌}
+use Rattle.std.proofs.Common.{sym, true≢false, ◌∙◌}
 use Rattle.esc_sharing.specs.Nodes.{node_term}
 use Rattle.sharing_cases.proofs.ConstantGaps.{told_closed, told_open}
 use Rattle.sharing_cases.proofs.constants.ConstantsTheory.told_equal.Goals as goal
 
-pub returns-then-num-clause-ends : goal.returns-then-num-clause-ends
-returns-then-num-clause-ends g c =
+pub returns-then-is_one_number-clause-ends : goal.returns-then-is_one_number-clause-ends
+returns-then-is_one_number-clause-ends g c =
     let graph = c.args._graph.now in
     told_open (node_term graph c.args.a) (node_term graph c.args.b) c.value.result.num
     c.value-2.result.num (c.value.ensures graph c.requires.numbers)
     (c.value-2.ensures graph c.requires.numbers)
-    (sym c.num.ensures.value ∙ (c.if-num.true ∙ c.num-2.ensures.value))
+    (c.is_one_number.ensures.0 c.if-is_one_number.true)
 
 pub returns-clause-ends : goal.returns-clause-ends
 returns-clause-ends g c =
@@ -17,4 +17,4 @@ returns-clause-ends g c =
     told_closed (node_term graph c.args.a) (node_term graph c.args.b) c.value.result.num
     c.value-2.result.num (c.value.ensures graph c.requires.numbers)
     (c.value-2.ensures graph c.requires.numbers)
-    (λ e. c.if-num.false (c.num.ensures.value ∙ (e ∙ sym c.num-2.ensures.value)))
+    (λ e. true≢false (sym (c.is_one_number.ensures.1 e) ∙ c.if-is_one_number.false))
