@@ -1,6 +1,6 @@
 -- What orders and equalities ask of terms that come to numbers.
 use Rattle.std.proofs.Common.{◌≡◌, ◌≢◌, ℕ, ℤ, pos, ◌+ℤ◌, ◌-ℤ◌, ◌*ℤ◌, ◌≤ℤ◌, Bool, true, false}
-use Rattle.std.proofs.Common.{if◌then◌else◌, List, [], ◌∷◌, refl, sym, ap, ◌∙◌, subst, arith}
+use Rattle.std.proofs.Common.{if◌then◌else◌, [], ◌∷◌, refl, sym, ap, ◌∙◌, subst, arith}
 use Rattle.std.specs.Prelude.{◌↔◌, Ok}
 use Rattle.std.proofs.lemmas.Int.{ints}
 use Rattle.std.proofs.lemmas.List.Elements.{All-nil, All-cons, All-head, All-tail}
@@ -9,7 +9,7 @@ use Rattle.esc_frac.specs.Integers.{*ℤ_cancel, *ℤ-≤ℤ, *ℤ-≤ℤ_cancel
 use Rattle.esc_cover.specs.Assignment.{Assignment, Gap, NoneNegative, gap, gap_value, value}
 use Rattle.esc_egraph.specs.declared.state.State.{State}
 use Rattle.esc_egraph.specs.declared.state.State.TheVariants.{Open, Closed}
-use Rattle.esc_sharing.specs.Admitted.{AdmitsWith, AdmitsWithSome, RestrictEnds, both_gaps}
+use Rattle.esc_sharing.specs.Admitted.{RestrictEnds, both_gaps}
 use Rattle.sharing_cases.specs.ConstantTerms.{IsWorth}
 
 -- each assignment is admitted

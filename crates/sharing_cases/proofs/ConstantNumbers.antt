@@ -1,14 +1,14 @@
 -- The arithmetic nodes of a theory of constants, and those of one number.
-use Rattle.std.proofs.Common.{◌≡◌, ◌≢◌, ℕ, ◌<◌, List, [], ◌∷◌, ◌++◌, take, refl, sym, ap}
+use Rattle.std.proofs.Common.{◌≡◌, ◌≢◌, ℕ, ◌<◌, [], ◌∷◌, ◌++◌, sym, ap}
 use Rattle.std.proofs.Common.{Bool, true≢false, Some, None, Ok, map, ◌∙◌, subst}
 use Rattle.std.specs.Prelude.{◌↔◌, IsTrue, MatchOption, Option, is_some}
 use Rattle.std.specs.List.{All, Contains}
 use Rattle.std.proofs.lemmas.List.{map-append}
-use Rattle.std.proofs.lemmas.List.Elements.{All-contains, All-contains_itself, All-map}
+use Rattle.std.proofs.lemmas.List.Elements.{All-contains, All-contains_itself}
 use Rattle.std.proofs.lemmas.List.Elements.{All-weaker}
 use Rattle.esc_term.specs.declared.term.Term.{Term}
 use Rattle.esc_frac.specs.Rational.{ℚ}
-use Rattle.esc_cover.specs.Assignment.{Assignment, value}
+use Rattle.esc_cover.specs.Assignment.{Assignment}
 use Rattle.esc_union.specs.Merges.{SameClass}
 use Rattle.esc_egraph.specs.Graph.{Graph, number_of}
 use Rattle.esc_sharing.specs.Admitted.{AreEqualBy, ArePartedBy, AreTwoNumbers, NextEnds}
@@ -17,7 +17,7 @@ use Rattle.esc_sharing.specs.Numbers.{AreNumbersOf, IsNumber, with_number}
 use Rattle.esc_sharing.proofs.BoundNodes.{with_number_new}
 use Rattle.esc_sharing.proofs.Lists.{Contains-map, Contains-of_map}
 use Rattle.sharing_cases.specs.ConstantTerms.{AreFoundMissed, AreMissed, AreThere, AreWorth, IsFound}
-use Rattle.sharing_cases.specs.ConstantTerms.{IsMissedWith, IsNoNode, IsWorth, NoneIsMissed}
+use Rattle.sharing_cases.specs.ConstantTerms.{IsNoNode, IsWorth, NoneIsMissed}
 use Rattle.sharing_cases.specs.ConstantTerms.{number_of_constant, numbers_in}
 use Rattle.sharing_cases.specs.declared.constants.Constant.{Constant}
 use Rattle.sharing_cases.specs.declared.constants.Constants.{Constants}
@@ -77,8 +77,7 @@ module _ (v : Constants) (g : Graph) (are : AreNumbersOf g (numbers_in v)) where
         × AreEqualBy Every (node_term g pair.0) (node_term g pair.1)
     missed_are_two pair found =
         let first = found.first in
-        let other = found.other.other in
-        (
+        let other = found.other.other in (
           record {
             first = subst (IsNumber (numbers_in v)) found.node (is_number v first found.among);
             second = subst (IsNumber (numbers_in v)) found.other.node
@@ -97,14 +96,17 @@ module _ (v : Constants) (g : Graph) (are : AreNumbersOf g (numbers_in v)) where
         → AreTwoNumbers g (numbers_in v) a b → ArePartedBy Every (node_term g a) (node_term g b)
     none_missed none x a b two =
         let first = constant_of v a two.first in
-        let other = constant_of v b two.second in
-        (x, tt, λ e. All-contains (λ d. AreMissed g first.0 d → ⊥) v.list other.0
-        (All-contains (NoneIsMissed g v.list) v.list first.0 none first.1) other.1 (record {
-          value = from_same_value (node_term g a) (node_term g b) first.0.value.num other.0.value.num
-              (worth_at first.0 a first.1 first.2) (worth_at other.0 b other.1 other.2) x e;
-          different = λ same. two.different (subst (λ c. SameClass (number_of g) a c) other.2
-              (subst (λ c. SameClass (number_of g) c other.0.node) first.2 same));
-        }))
+        let other = constant_of v b two.second in (
+          x,
+          tt,
+          λ e. All-contains (λ d. AreMissed g first.0 d → ⊥) v.list other.0
+              (All-contains (NoneIsMissed g v.list) v.list first.0 none first.1) other.1 (record {
+                value = from_same_value (node_term g a) (node_term g b) first.0.value.num other.0.value.num
+                    (worth_at first.0 a first.1 first.2) (worth_at other.0 b other.1 other.2) x e;
+                different = λ same. two.different (subst (λ c. SameClass (number_of g) a c) other.2
+                    (subst (λ c. SameClass (number_of g) c other.0.node) first.2 same));
+              }),
+        )
 
 -- ---- what calls answer
 

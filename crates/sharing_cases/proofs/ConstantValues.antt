@@ -10,7 +10,7 @@ use Rattle.esc_frac.specs.Rational.{ℚ}
 use Rattle.esc_linear.specs.declared.form.Form.{Form}
 use Rattle.esc_linear.specs.Laws.{IsLin, only, weighted}
 use Rattle.esc_linear.specs.Lin.{lin}
-use Rattle.esc_cover.specs.Assignment.{Assignment, value}
+use Rattle.esc_cover.specs.Assignment.{value}
 use Rattle.sharing_cases.specs.ConstantTerms.{IsWorth}
 
 none_times : (z : ℤ) → pos 0 *ℤ z ≡ pos 0

@@ -105,7 +105,14 @@ impl Theory for Constants {
             return Err(Stop::Memory);
         };
         let value = value_or_stop(self.alloc, &term)?;
-        match self.push(Constant { node: a, term, value }, trail) {
+        match self.push(
+            Constant {
+                node: a,
+                term,
+                value,
+            },
+            trail,
+        ) {
             Ok(()) => Ok(()),
             Err(AllocError) => Err(Stop::Memory),
         }
@@ -267,7 +274,11 @@ fn gap_state(upper: Frac, lower: Frac, strict: bool) -> State
 {
     let above = upper.num();
     let below = lower.num();
-    let holds = if strict { below < above } else { below <= above };
+    let holds = if strict {
+        below < above
+    } else {
+        below <= above
+    };
     if holds { State::Open } else { State::Closed }
 }
 

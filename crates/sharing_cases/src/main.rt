@@ -1,4 +1,5 @@
-//! Scripts of literals that a graph and the arithmetic share, whose answers were worked by hand.
+//! Scripts of literals that a graph shares with the arithmetic, or with a theory of constants, whose
+//! answers were worked by hand.
 //!
 //! Each line of the standard input is a task, and each is printed with what it comes to. Lines
 //! without words and lines that begin with `;` are printed as they are.
@@ -20,8 +21,8 @@
 //! arguments, and names of one letter with the number of their arguments, `f1`, which may be left
 //! out where there are none. Literals bring their terms in play, those of a literal and a group in
 //! order. What is asserted is `open`, or it is `closed`, or the call is given up, and then which
-//! numbers spill is told, or the limit. After that only `sharing` and `pop` are taken, `same` and
-//! `numbers`.
+//! numbers spill is told, or the limit; over constants the form of a term that comes to no number
+//! spills. After that only `sharing`, `constants` and `pop` are taken, `same` and `numbers`.
 #![tactic(auto)]
 
 ghost use Rattle.sharing_cases.specs.Undoable.{IsKept};

@@ -52,7 +52,12 @@ fn of_terms<T: Theory + Undoable<Rec = Q> + Drop, Q: Copy>(
     told(alloc, end)
 }
 
-fn of_some<T: Theory + Undoable<Rec = Q> + Drop, Q: Copy>(alloc: Global, script: &mut Script<T, Q>, task: &str, terms: &[Term]) -> Result<Outcome, End>
+fn of_some<T: Theory + Undoable<Rec = Q> + Drop, Q: Copy>(
+    alloc: Global,
+    script: &mut Script<T, Q>,
+    task: &str,
+    terms: &[Term],
+) -> Result<Outcome, End>
     requires { IsUndoable T.undo T.sound T.admits T.numbers script.old }
     ensures { IsUndoable T.undo T.sound T.admits T.numbers script.new }
 {
@@ -64,7 +69,11 @@ fn of_some<T: Theory + Undoable<Rec = Q> + Drop, Q: Copy>(alloc: Global, script:
     }
 }
 
-fn of_all<T: Theory + Undoable<Rec = Q> + Drop, Q: Copy>(alloc: Global, script: &mut Script<T, Q>, terms: &[Term]) -> Result<Outcome, End>
+fn of_all<T: Theory + Undoable<Rec = Q> + Drop, Q: Copy>(
+    alloc: Global,
+    script: &mut Script<T, Q>,
+    terms: &[Term],
+) -> Result<Outcome, End>
     requires { IsUndoable T.undo T.sound T.admits T.numbers script.old }
     ensures { IsUndoable T.undo T.sound T.admits T.numbers script.new }
 {
@@ -79,7 +88,11 @@ fn of_all<T: Theory + Undoable<Rec = Q> + Drop, Q: Copy>(alloc: Global, script: 
     Ok(Outcome::Open)
 }
 
-fn of_one<T: Theory + Undoable<Rec = Q> + Drop, Q: Copy>(script: &mut Script<T, Q>, task: &str, term: &Term) -> Result<Outcome, End>
+fn of_one<T: Theory + Undoable<Rec = Q> + Drop, Q: Copy>(
+    script: &mut Script<T, Q>,
+    task: &str,
+    term: &Term,
+) -> Result<Outcome, End>
     requires { IsUndoable T.undo T.sound T.admits T.numbers script.old }
     ensures { IsUndoable T.undo T.sound T.admits T.numbers script.new }
 {
@@ -92,7 +105,12 @@ fn of_one<T: Theory + Undoable<Rec = Q> + Drop, Q: Copy>(script: &mut Script<T, 
     }
 }
 
-fn of_two<T: Theory + Undoable<Rec = Q> + Drop, Q: Copy>(script: &mut Script<T, Q>, task: &str, first: &Term, second: &Term) -> Result<Outcome, End>
+fn of_two<T: Theory + Undoable<Rec = Q> + Drop, Q: Copy>(
+    script: &mut Script<T, Q>,
+    task: &str,
+    first: &Term,
+    second: &Term,
+) -> Result<Outcome, End>
     requires { IsUndoable T.undo T.sound T.admits T.numbers script.old }
     ensures { IsUndoable T.undo T.sound T.admits T.numbers script.new }
 {

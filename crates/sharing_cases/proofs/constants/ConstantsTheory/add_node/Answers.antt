@@ -1,4 +1,4 @@
-use Rattle.std.proofs.Common.{ap, false, sym, subst, true≢false, ◌∙◌}
+use Rattle.std.proofs.Common.{ap, sym, subst, true≢false, ◌∙◌}
 use Rattle.std.specs.Prelude.{MatchOption}
 use Rattle.esc_sharing.specs.Nodes.{node_term}
 use Rattle.esc_sharing.specs.Numbers.{with_number}

@@ -2,7 +2,6 @@ use Rattle.std.proofs.Common.{ℕ, get_or, ap, sym, ◌∙◌, arith}
 use Rattle.std.proofs.lemmas.List.{get_or-map, length-map}
 use Rattle.esc_term.specs.declared.term.Term.{Term}
 use Rattle.sharing_cases.specs.ConstantTerms.{number_of_constant, numbers_in}
-use Rattle.sharing_cases.specs.declared.constants.Constant.{Constant}
 use Rattle.sharing_cases.proofs.constants.ConstantsTheory.number_at.Goals as goal
 
 pub returns : goal.returns
