@@ -16,7 +16,8 @@ use Rattle.esc_sharing.specs.Nodes.{node_count, node_term}
 use Rattle.esc_sharing.specs.Numbers.{AreNumbersOf, IsNumber, with_number}
 use Rattle.esc_sharing.proofs.BoundNodes.{with_number_new}
 use Rattle.esc_sharing.proofs.Lists.{Contains-map, Contains-of_map}
-use Rattle.sharing_cases.specs.ConstantTerms.{AreFoundMissed, AreMissed, AreThere, AreWorth, IsFound}
+use Rattle.sharing_cases.specs.ConstantTerms.{AreFoundMissed, AreMissed}
+use Rattle.sharing_cases.specs.ConstantTerms.{AreThere, AreWorth, IsFound}
 use Rattle.sharing_cases.specs.ConstantTerms.{IsNoNode, IsWorth, NoneIsMissed}
 use Rattle.sharing_cases.specs.ConstantTerms.{number_of_constant, numbers_in}
 use Rattle.sharing_cases.specs.declared.constants.Constant.{Constant}
@@ -86,7 +87,8 @@ module _ (v : Constants) (g : Graph) (are : AreNumbersOf g (numbers_in v)) where
                 (subst (λ b. SameClass (number_of g) first.node b) (sym found.other.node)
                 (subst (λ a. SameClass (number_of g) a pair.1) (sym found.node) same));
           },
-          λ x old. same_value (node_term g pair.0) (node_term g pair.1) first.value.num other.value.num
+          λ x old. same_value (node_term g pair.0) (node_term g pair.1) first.value.num
+              other.value.num
               (worth_at first pair.0 found.among found.node)
               (worth_at other pair.1 found.other.among found.other.node)
               found.other.missed.value x,
@@ -101,7 +103,8 @@ module _ (v : Constants) (g : Graph) (are : AreNumbersOf g (numbers_in v)) where
           tt,
           λ e. All-contains (λ d. AreMissed g first.0 d → ⊥) v.list other.0
               (All-contains (NoneIsMissed g v.list) v.list first.0 none first.1) other.1 (record {
-                value = from_same_value (node_term g a) (node_term g b) first.0.value.num other.0.value.num
+                value = from_same_value (node_term g a) (node_term g b) first.0.value.num
+                    other.0.value.num
                     (worth_at first.0 a first.1 first.2) (worth_at other.0 b other.1 other.2) x e;
                 different = λ same. two.different (subst (λ c. SameClass (number_of g) a c) other.2
                     (subst (λ c. SameClass (number_of g) c other.0.node) first.2 same));

@@ -10,8 +10,9 @@ ghost use Rattle.esc_sharing.specs.Nodes.{node_count, node_term};
 ghost use Rattle.esc_sharing.specs.Numbers.{AreNumbersOf, IsNumber};
 ghost use Rattle.esc_sharing.specs.Stops.{UnlessMemory};
 ghost use Rattle.sharing_cases.specs.ConstantTerms.{AreFoundMissed, AreMissed, AreThere, AreWorth};
-ghost use Rattle.sharing_cases.specs.ConstantTerms.{IsFound, IsMissedWith, IsNoConstant, IsNoNode, IsRefused};
-ghost use Rattle.sharing_cases.specs.ConstantTerms.{IsWorth, NoneIsMissed, constants_undo, numbers_in};
+ghost use Rattle.sharing_cases.specs.ConstantTerms.{IsFound, IsMissedWith, IsNoConstant, IsNoNode};
+ghost use Rattle.sharing_cases.specs.ConstantTerms.{IsRefused, IsWorth, NoneIsMissed};
+ghost use Rattle.sharing_cases.specs.ConstantTerms.{constants_undo, numbers_in};
 
 use esc_egraph::{EGraph, Node, State};
 use esc_frac::Frac;

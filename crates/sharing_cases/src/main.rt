@@ -1,4 +1,4 @@
-//! Scripts of literals that a graph shares with the arithmetic, or with a theory of constants, whose
+//! Scripts of literals that a graph shares with the arithmetic, or with a theory of constants. The
 //! answers were worked by hand.
 //!
 //! Each line of the standard input is a task, and each is printed with what it comes to. Lines
