@@ -32,7 +32,7 @@ use Rattle.esc_book.specs.declared.page.Place.TheVariants as place
 use Rattle.esc_book.proofs.EntryForms.{of_form}
 use Rattle.esc_book.proofs.Nested.{heads_first, occurrences_of-heads}
 use Rattle.esc_book.proofs.Pairs.{pair_equations-map, slice_get-map}
-use Rattle.esc_book.proofs.Reading.{get-within, length-page, own_at, read}
+use Rattle.esc_book.proofs.Reading.{begin_at-own, get-within, length-page, own_at, read}
 
 -- ---- the pairs of nodes
 
@@ -119,6 +119,27 @@ has_entry g f page is i e l is_e =
           ∙ ap (λ (o : Outline). o.form) found.1.outline;
       nodes = subst (λ (x : Entry). HasNodes g x.kind) (sym is_e) (is.nodes i e l);
     }
+
+-- ---- the entry that begins at a place
+
+pub begins_located : (g : Graph) (f : Formula) (page : List Entry) → IsPage g f page → (at i : ℕ)
+    (e : Entry) → i < length page → e ≡ get_or page i e → e.begin ≡ at
+    → IsLocated g f page at (place.Entry i)
+begins_located g f page is at i e l is_e same =
+    let here = has_entry g f page is i e l is_e in
+    let begins : begin_at (heads_of f) i ≡ at = sym here.begins ∙ same in
+    let ends : begin_at (heads_of f) (suc i) ≡ begin_at (heads_of f) i + length (own here.of) =
+    begin_at-own (heads_of f) i here.of here.there in
+    let some : 0 < length (own here.of) = omega arith in
+    let low : begin_at (heads_of f) i ≤ at = omega (arith, begins) in
+    let none : at - begin_at (heads_of f) i ≡ 0 = omega (arith, begins) in (
+      here.of,
+      here.there,
+      ap (λ l. slice_get l at) (occurrences_of-heads f)
+          ∙ (own_at (heads_of f) i here.of at here.there low (λ more. omega (arith, begins, ends, some))
+          ∙ ap (λ n. slice_get (own here.of) n) none),
+      begins,
+    )
 
 -- ---- the last entry that begins at a place or before
 

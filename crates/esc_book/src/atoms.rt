@@ -47,7 +47,7 @@ pub(crate) fn group_of(page: &[Entry], index: usize) -> Option<&[Node]>
         return None;
     };
     match &entry.kind {
-        Kind::Distinction(group) => Some(group.nodes()),
+        Kind::Distinction(group) => Some(group.get().nodes()),
         _ => None,
     }
 }
@@ -83,9 +83,9 @@ fn atom_as_formula(alloc: Global, graph: &EGraph, kind: &Kind) -> Result<Formula
             Ok(Formula::Less(left, graph.term(*b)?))
         }
         Kind::Distinction(group) => {
-            Ok(Formula::Distinct(terms_of(alloc, graph, group.nodes())?))
+            Ok(Formula::Distinct(terms_of(alloc, graph, group.get().nodes())?))
         }
-        Kind::Quantified(formula) => formula.copy(alloc),
+        Kind::Quantified(formula) => formula.get().copy(alloc),
         _ => unreachable!(),
     }
 }

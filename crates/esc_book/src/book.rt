@@ -74,6 +74,19 @@ impl Book {
         &self.logged
     }
 
+    /// The formulas of the log, in order, of a book that is no longer needed.
+    pub fn into_formulas(self) -> Formulas
+        ensures { result ≡ self.logged }
+    {
+        let Book {
+            alloc: _,
+            logged,
+            live: _,
+            pages: _,
+        } = self;
+        logged
+    }
+
     /// The places of the live facts, in the order in which they became live.
     pub fn live(&self) -> &[usize]
         ensures { result.now ≡ self.now.live }

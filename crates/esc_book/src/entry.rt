@@ -3,13 +3,14 @@
 use crate::group::Group;
 use esc_egraph::Node;
 use esc_term::Formula;
-use sqlite_items::Items;
+use sqlite_items::{Boxed, Items};
 
 /// The entries of one formula, an entry for each occurrence, in order; but the pairs of a
 /// distinction have none.
 pub type Page = Items<Entry>;
 
-/// What a formula is, but for its parts, with nodes for terms.
+/// What a formula is, but for its parts, with nodes for terms. What would take much room stands
+/// elsewhere, so that a table takes little for each occurrence.
 #[derive(Drop)]
 pub enum Kind {
     Constant(bool),
@@ -21,8 +22,8 @@ pub enum Kind {
     Labelled,
     Equation(Node, Node),
     Order(Node, Node),
-    Distinction(Group),
-    Quantified(Formula),
+    Distinction(Boxed<Group>),
+    Quantified(Boxed<Formula>),
 }
 
 /// An occurrence of a formula.

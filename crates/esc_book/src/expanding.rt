@@ -56,7 +56,7 @@ pub(crate) fn expanded_entry(
         Kind::Labelled => parts_from(alloc, page, first, next, at.fact, sign, true),
         Kind::Implication => implied(alloc, page, first, at.fact, sign),
         Kind::Equivalence => equivalent(alloc, page, first, at.fact, sign),
-        Kind::Distinction(group) => distinct(alloc, group, at),
+        Kind::Distinction(group) => distinct(alloc, group.get(), at),
         Kind::Equation(_, _) => Ok(Expanded::Literal),
         Kind::Order(_, _) => Ok(Expanded::Literal),
         Kind::Quantified(_) => Ok(Expanded::Literal),

@@ -26,8 +26,22 @@ pub(crate) enum Place {
     Nowhere,
 }
 
-/// What stands at a place of the formula of a table.
+/// What stands at a place of the formula of a table. Where no distinction stands before it, that is
+/// the occurrence of the entry with this number.
 pub(crate) fn locate(page: &[Entry], place: u64) -> Place
+    ensures { (g : Graph) (f : Formula) → IsPage g f page.now
+        → IsLocated g f page.now place result }
+{
+    if let Some(entry) = page.get(place as usize) {
+        if entry.begin == place {
+            return Place::Entry(place as usize);
+        }
+    }
+    search_for(page, place)
+}
+
+/// The same, by halving.
+fn search_for(page: &[Entry], place: u64) -> Place
     ensures { (g : Graph) (f : Formula) → IsPage g f page.now
         → IsLocated g f page.now place result }
 {
@@ -43,7 +57,7 @@ pub(crate) fn locate(page: &[Entry], place: u64) -> Place
         return Place::Entry(behind - 1);
     }
     match &entry.kind {
-        Kind::Distinction(group) => pair_in(group, place - entry.begin - 1),
+        Kind::Distinction(group) => pair_in(group.get(), place - entry.begin - 1),
         _ => Place::Nowhere,
     }
 }

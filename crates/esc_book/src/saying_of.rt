@@ -90,8 +90,8 @@ impl<'a> BookJudge<'a> {
             },
             Kind::Equation(a, b) => self.saying.equal(*a, *b),
             Kind::Order(a, b) => self.saying.less(*a, *b),
-            Kind::Distinction(group) => self.saying.distinct(group.nodes()),
-            Kind::Quantified(formula) => self.said_of_quantified(formula),
+            Kind::Distinction(group) => self.saying.distinct(group.get().nodes()),
+            Kind::Quantified(formula) => self.said_of_quantified(formula.get()),
             _ => Said::NOTHING,
         }
     }
@@ -146,7 +146,7 @@ fn is_quantified_as(kind: &Kind, formula: &Formula) -> bool
     ensures { IsTrue result ↔ (kind.now ≡ Quantified formula.now) }
 {
     match kind {
-        Kind::Quantified(other) => *other == *formula,
+        Kind::Quantified(other) => *other.get() == *formula,
         _ => false,
     }
 }

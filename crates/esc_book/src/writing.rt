@@ -12,6 +12,7 @@ use crate::entry::{Entry, Kind, Page};
 use crate::group::{Group, Nodes, further};
 use esc_egraph::{EGraph, Node};
 use esc_term::{Formula, Term};
+use sqlite_items::Boxed;
 use std::alloc::{AllocError, Global};
 
 /// The table of a formula. It fails only where memory is wanting, or where a place would be too
@@ -164,10 +165,13 @@ fn kind_of(alloc: Global, graph: &EGraph, formula: &Formula) -> Result<Kind, All
         Formula::Less(left, right) => Ok(Kind::Order(node_of(graph, left), node_of(graph, right))),
         Formula::Distinct(terms) => {
             let nodes = nodes_of(alloc, graph, terms.as_slice())?;
-            Ok(Kind::Distinction(Group::new(alloc, nodes)?))
+            let group = Group::new(alloc, nodes)?;
+            Ok(Kind::Distinction(Boxed::new(alloc, group)?))
         }
-        Formula::Forall(_) => Ok(Kind::Quantified(formula.copy(alloc)?)),
-        Formula::Exists(_) => Ok(Kind::Quantified(formula.copy(alloc)?)),
+        Formula::Forall(_) | Formula::Exists(_) => {
+            let copy = formula.copy(alloc)?;
+            Ok(Kind::Quantified(Boxed::new(alloc, copy)?))
+        }
     }
 }
 

@@ -172,6 +172,32 @@ impl Search {
     pub fn into_log(self) -> Result<(Facts, Formulas), AllocError>
         ensures { IfOk result (λ pair. (pair.0 ≡ self.log) × (pair.1 ≡ logged self.branch)) }
     {
-        self.used()
+        let facts = self.facts()?;
+        Ok((facts, self.into_formulas()))
+    }
+
+    /// The formulas of the log, which are moved out.
+    fn into_formulas(self) -> Formulas
+        ensures { result ≡ logged self.branch }
+    {
+        let Search {
+            alloc: _,
+            branch,
+            trail: _,
+            log: _,
+            sides: _,
+            splits: _,
+            under: _,
+            limits: _,
+            tally: _,
+        } = self;
+        let LiveBranch {
+            sharing: _,
+            clauses: _,
+            book,
+            literals: _,
+            alloc: _,
+        } = branch;
+        book.into_formulas()
     }
 }

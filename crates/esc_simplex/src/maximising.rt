@@ -82,8 +82,26 @@ fn pivoted_to_peak(tableau: &mut Tableau, unknown: Unknown, limit: u64) -> Resul
     }
 }
 
-/// Brings the unknown to 0 or above, where the restrictions allow it anywhere.
+/// Brings the unknown to 0 or above, where the restrictions allow it anywhere. At 0 it gives up its
+/// row to a free unknown: a restricted row at 0 lets none of the columns in it move.
 pub fn lift(tableau: &mut Tableau, unknown: Unknown, limit: u64) -> Result<bool, Stop>
+    requires unknown { unknown < size tableau.old }
+    requires table { IsTable tableau.old }
+    requires within { IsWithin tableau.old (sample tableau.old) }
+    ensures keeps { KeepsSystem tableau.old tableau.new }
+    ensures ends { IfOk result (LiftEnds tableau.new unknown) }
+    ensures stops { IfErr result (MaximisingStops tableau.old tableau.new unknown limit) }
+{
+    let found = bring_up(tableau, unknown, limit)?;
+    if !found {
+        return Ok(false);
+    }
+    tableau.settle(unknown);
+    Ok(true)
+}
+
+// The same, whoever owns the rows then.
+fn bring_up(tableau: &mut Tableau, unknown: Unknown, limit: u64) -> Result<bool, Stop>
     requires unknown { unknown < size tableau.old }
     requires table { IsTable tableau.old }
     requires within { IsWithin tableau.old (sample tableau.old) }

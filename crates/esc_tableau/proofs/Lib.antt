@@ -3,6 +3,7 @@ pub mod PivotLaws
 pub mod Pivoted
 pub mod Places
 pub mod SampleLaws
+pub mod SettlingLaws
 pub mod Tables
 pub mod LocalLaws
 pub mod Orders

@@ -13,6 +13,7 @@ mod maximising;
 mod moving;
 mod owner;
 mod rule;
+mod settling;
 mod solving;
 mod tableau;
 mod unknown;

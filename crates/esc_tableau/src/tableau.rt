@@ -151,6 +151,19 @@ impl Tableau {
         self.grid.exchange(unknown, ray, self.alloc)
     }
 
+    /// Where the unknown owns a row and stands at 0 in the sample, it changes places with the owner
+    /// of the first column with an entry in its row that is not restricted. The tableau stays as it
+    /// is where there is none, or where a step does not fit. The sample stays in each case.
+    pub fn settle(&mut self, unknown: Unknown)
+        requires { IsWithin self.old (sample self.old) }
+        ensures values { (u : ℕ) → sample self.new u ≡ sample self.old u }
+        ensures same { SameSystem self.old self.new }
+        ensures within { IsWithin self.new (sample self.new) }
+        ensures table { IsTable self.new }
+    {
+        self.grid.settle(unknown, self.alloc);
+    }
+
     /// Makes an unknown that owns a column: the rows say nothing of it.
     pub fn add_column(&mut self) -> Result<Unknown, AllocError>
         ensures unknown { IfOk result (λ u. u ≡ size self.old) }

@@ -1,4 +1,7 @@
+pub mod ConstantGaps
+pub mod ConstantNumbers
+pub mod ConstantUndo
+pub mod ConstantValues
 pub mod GroundForms
-pub mod Kept
 pub mod Rising
 pub mod Undoables

@@ -1,1 +1,3 @@
+pub mod ConstantLaws
+pub mod ConstantTerms
 pub mod Undoable

@@ -1,9 +1,9 @@
-//! A sharing over the arithmetic, with its undo stack and the marks on it.
+//! A sharing over a theory, with its undo stack and the marks on it.
 
-ghost use Rattle.std.specs.Prelude.{◌≡◌, ◌<◌, IfOk, IsTrue};
+ghost use Rattle.std.specs.Prelude.{◌≡◌, ◌<◌, [], IfOk, IsTrue};
 ghost use Rattle.std.specs.List.{All};
-ghost use Rattle.esc_simplex.specs.View.{numbers_in};
 ghost use Rattle.esc_term.specs.Term.{is_ground};
+ghost use Rattle.esc_cover.specs.Assignment.{Assignment};
 ghost use Rattle.esc_sharing.specs.Literals.{AreSides};
 ghost use Rattle.esc_sharing.specs.Nodes.{node_count};
 ghost use Rattle.esc_sharing.specs.Numbers.{IsNumber};
@@ -11,28 +11,31 @@ ghost use Rattle.sharing_cases.specs.Undoable.{IsUndoable};
 
 use crate::end::{End, ended, has_opened, is_open, node_in};
 use esc_egraph::Node;
-use esc_sharing::{Lit, PartRec, Sharing, Theory};
-use esc_simplex::{Simplex, SimplexRec, Stop};
+use esc_sharing::{Lit, PartRec, Sharing, Theory, staying_laws};
+use esc_simplex::Stop;
 use esc_term::{Term, all_ground};
-use esc_trail::{Mark, Trail};
+use esc_trail::{Mark, Trail, Undoable};
 use std::alloc::{AllocError, Global};
 
 /// What was asserted, all of which can be taken back.
 #[derive(Drop)]
-pub struct Script {
-    owner: Sharing<Simplex>,
-    trail: Trail<PartRec<SimplexRec>>,
+pub struct Script<T, Q> {
+    owner: Sharing<T>,
+    trail: Trail<PartRec<Q>>,
     levels: Vec<Mark>,
     /// Whether nothing was closed or given up since the newest mark.
     goes: bool,
 }
 
-impl Script {
-    /// Nothing is asserted. A maximising may take so many pivots.
-    pub fn new(alloc: Global, pivots: u64) -> Result<Script, AllocError>
-        ensures { IfOk result IsUndoable }
+impl<T: Theory + Undoable<Rec = Q> + Drop, Q: Copy> Script<T, Q> {
+    /// Nothing is asserted.
+    pub fn new(alloc: Global, theory: T) -> Result<Script<T, Q>, AllocError>
+        requires sound { T.sound theory }
+        requires numbers { T.numbers theory ≡ [] }
+        requires admits { (x : Assignment) → T.admits theory x }
+        ensures { IfOk result (IsUndoable T.undo T.sound T.admits T.numbers) }
     {
-        let owner = Sharing::new(alloc, Simplex::new(alloc, pivots))?;
+        let owner = Sharing::new(alloc, theory)?;
         Ok(Script {
             owner,
             trail: Trail::new(alloc),
@@ -43,8 +46,8 @@ impl Script {
 
     /// Sets a mark. How many there are then.
     pub fn mark(&mut self) -> Result<usize, End>
-        requires { IsUndoable self.old }
-        ensures { IsUndoable self.new }
+        requires { IsUndoable T.undo T.sound T.admits T.numbers self.old }
+        ensures { IsUndoable T.undo T.sound T.admits T.numbers self.new }
     {
         if !self.goes {
             return Err(End::NoTask);
@@ -57,8 +60,8 @@ impl Script {
 
     /// Takes all back that came after the newest mark, and the mark. How many there are then.
     pub fn pop(&mut self) -> Result<usize, End>
-        requires { IsUndoable self.old }
-        ensures { IsUndoable self.new }
+        requires { IsUndoable T.undo T.sound T.admits T.numbers self.old }
+        ensures { IsUndoable T.undo T.sound T.admits T.numbers self.new }
     {
         let Some(mark) = self.levels.pop() else {
             return Err(End::NoTask);
@@ -70,12 +73,13 @@ impl Script {
 
     /// The node of a term, which comes in play.
     pub fn add(&mut self, term: &Term, side: bool) -> Result<Node, End>
-        requires { IsUndoable self.old }
-        ensures { IsUndoable self.new }
+        requires { IsUndoable T.undo T.sound T.admits T.numbers self.old }
+        ensures { IsUndoable T.undo T.sound T.admits T.numbers self.new }
     {
         if !self.goes || !has_no_variable(term) {
             return Err(End::NoTask);
         }
+        staying_laws::<T>();
         let added = self.owner.add_term(term, side, &mut self.trail);
         self.goes = has_opened(&added);
         node_in(added)
@@ -83,12 +87,13 @@ impl Script {
 
     /// Asserts a literal.
     pub fn assert(&mut self, lit: Lit) -> Result<(), End>
-        requires { IsUndoable self.old }
-        ensures { IsUndoable self.new }
+        requires { IsUndoable T.undo T.sound T.admits T.numbers self.old }
+        ensures { IsUndoable T.undo T.sound T.admits T.numbers self.new }
     {
         if !self.goes || !self.has_sides(&lit) {
             return Err(End::NoTask);
         }
+        staying_laws::<T>();
         let state = self.owner.assert_literal(lit, &mut self.trail);
         self.goes = is_open(&state);
         ended(state)
@@ -96,12 +101,13 @@ impl Script {
 
     /// Asserts that the nodes at any two places differ.
     pub fn assert_group(&mut self, nodes: &[Node]) -> Result<(), End>
-        requires { IsUndoable self.old }
-        ensures { IsUndoable self.new }
+        requires { IsUndoable T.undo T.sound T.admits T.numbers self.old }
+        ensures { IsUndoable T.undo T.sound T.admits T.numbers self.new }
     {
         if !self.goes || !self.has_nodes(nodes) {
             return Err(End::NoTask);
         }
+        staying_laws::<T>();
         let state = self.owner.assert_group(nodes, &mut self.trail);
         self.goes = is_open(&state);
         ended(state)
@@ -123,7 +129,7 @@ impl Script {
 
     /// Whether the literal may be asserted.
     fn has_sides(&self, lit: &Lit) -> bool
-        ensures { IsTrue result → AreSides self.now.owner.graph (numbers_in self.now.owner.theory)
+        ensures { IsTrue result → AreSides self.now.owner.graph (T.numbers self.now.owner.theory)
             lit.now }
     {
         match lit {
@@ -152,7 +158,7 @@ impl Script {
     /// Whether the node may be a side of an order.
     fn has_number(&self, a: Node) -> bool
         ensures there { IsTrue result → a < node_count self.now.owner.graph }
-        ensures number { IsTrue result → IsNumber (numbers_in self.now.owner.theory) a }
+        ensures number { IsTrue result → IsNumber (T.numbers self.now.owner.theory) a }
     {
         self.has_node(a) && self.owner.theory().has_node(a)
     }

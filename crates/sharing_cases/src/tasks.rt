@@ -6,9 +6,10 @@ use crate::end::{End, end_text};
 use crate::script::Script;
 use crate::words::terms_of;
 use esc_egraph::Node;
-use esc_sharing::Lit;
+use esc_sharing::{Lit, Theory};
 use esc_simplex::Stop;
 use esc_term::Term;
+use esc_trail::Undoable;
 use std::alloc::{AllocError, Global};
 
 /// What a task comes to.
@@ -20,17 +21,16 @@ enum Outcome {
 }
 
 /// The text of what a task comes to.
-pub fn answer(
+pub fn answer<T: Theory + Undoable<Rec = Q> + Drop, Q: Copy>(
     alloc: Global,
-    script: &mut Script,
+    script: &mut Script<T, Q>,
     task: &str,
     operands: &[&str],
 ) -> Result<Option<String>, AllocError>
-    requires { IsUndoable script.old }
-    ensures { IsUndoable script.new }
+    requires { IsUndoable T.undo T.sound T.admits T.numbers script.old }
+    ensures { IsUndoable T.undo T.sound T.admits T.numbers script.new }
 {
     match task {
-        "sharing" => begun(alloc, script, operands),
         "mark" => told(alloc, script.mark().map(Outcome::Number)),
         "pop" => told(alloc, script.pop().map(Outcome::Number)),
         "numbers" => told(alloc, Ok(Outcome::Number(script.numbers()))),
@@ -38,38 +38,28 @@ pub fn answer(
     }
 }
 
-fn begun(
+fn of_terms<T: Theory + Undoable<Rec = Q> + Drop, Q: Copy>(
     alloc: Global,
-    script: &mut Script,
-    operands: &[&str],
-) -> Result<Option<String>, AllocError>
-    requires { IsUndoable script.old }
-    ensures { IsUndoable script.new }
-{
-    let Some(Ok(pivots)) = operands.first().map(|word| word.parse::<u64>()) else {
-        return Ok(None);
-    };
-    *script = Script::new(alloc, pivots)?;
-    Ok(Some(String::from_str(alloc, "nothing is asserted")?))
-}
-
-fn of_terms(
-    alloc: Global,
-    script: &mut Script,
+    script: &mut Script<T, Q>,
     task: &str,
     operands: &[&str],
 ) -> Result<Option<String>, AllocError>
-    requires { IsUndoable script.old }
-    ensures { IsUndoable script.new }
+    requires { IsUndoable T.undo T.sound T.admits T.numbers script.old }
+    ensures { IsUndoable T.undo T.sound T.admits T.numbers script.new }
 {
     let terms = terms_of(alloc, operands)?;
     let end = of_some(alloc, script, task, &terms);
     told(alloc, end)
 }
 
-fn of_some(alloc: Global, script: &mut Script, task: &str, terms: &[Term]) -> Result<Outcome, End>
-    requires { IsUndoable script.old }
-    ensures { IsUndoable script.new }
+fn of_some<T: Theory + Undoable<Rec = Q> + Drop, Q: Copy>(
+    alloc: Global,
+    script: &mut Script<T, Q>,
+    task: &str,
+    terms: &[Term],
+) -> Result<Outcome, End>
+    requires { IsUndoable T.undo T.sound T.admits T.numbers script.old }
+    ensures { IsUndoable T.undo T.sound T.admits T.numbers script.new }
 {
     match terms {
         _ if task == "group" => of_all(alloc, script, terms),
@@ -79,9 +69,13 @@ fn of_some(alloc: Global, script: &mut Script, task: &str, terms: &[Term]) -> Re
     }
 }
 
-fn of_all(alloc: Global, script: &mut Script, terms: &[Term]) -> Result<Outcome, End>
-    requires { IsUndoable script.old }
-    ensures { IsUndoable script.new }
+fn of_all<T: Theory + Undoable<Rec = Q> + Drop, Q: Copy>(
+    alloc: Global,
+    script: &mut Script<T, Q>,
+    terms: &[Term],
+) -> Result<Outcome, End>
+    requires { IsUndoable T.undo T.sound T.admits T.numbers script.old }
+    ensures { IsUndoable T.undo T.sound T.admits T.numbers script.new }
 {
     let mut nodes = Vec::new(alloc);
     'terms: for term in terms {
@@ -94,9 +88,13 @@ fn of_all(alloc: Global, script: &mut Script, terms: &[Term]) -> Result<Outcome,
     Ok(Outcome::Open)
 }
 
-fn of_one(script: &mut Script, task: &str, term: &Term) -> Result<Outcome, End>
-    requires { IsUndoable script.old }
-    ensures { IsUndoable script.new }
+fn of_one<T: Theory + Undoable<Rec = Q> + Drop, Q: Copy>(
+    script: &mut Script<T, Q>,
+    task: &str,
+    term: &Term,
+) -> Result<Outcome, End>
+    requires { IsUndoable T.undo T.sound T.admits T.numbers script.old }
+    ensures { IsUndoable T.undo T.sound T.admits T.numbers script.new }
 {
     match task {
         "term" => {
@@ -107,9 +105,14 @@ fn of_one(script: &mut Script, task: &str, term: &Term) -> Result<Outcome, End>
     }
 }
 
-fn of_two(script: &mut Script, task: &str, first: &Term, second: &Term) -> Result<Outcome, End>
-    requires { IsUndoable script.old }
-    ensures { IsUndoable script.new }
+fn of_two<T: Theory + Undoable<Rec = Q> + Drop, Q: Copy>(
+    script: &mut Script<T, Q>,
+    task: &str,
+    first: &Term,
+    second: &Term,
+) -> Result<Outcome, End>
+    requires { IsUndoable T.undo T.sound T.admits T.numbers script.old }
+    ensures { IsUndoable T.undo T.sound T.admits T.numbers script.new }
 {
     match task {
         "same" => Ok(Outcome::AreOne(script.same(first, second)?)),
@@ -119,15 +122,15 @@ fn of_two(script: &mut Script, task: &str, first: &Term, second: &Term) -> Resul
     }
 }
 
-fn of_sides(
-    script: &mut Script,
+fn of_sides<T: Theory + Undoable<Rec = Q> + Drop, Q: Copy>(
+    script: &mut Script<T, Q>,
     task: &str,
     first: &Term,
     second: &Term,
     order: bool,
 ) -> Result<Outcome, End>
-    requires { IsUndoable script.old }
-    ensures { IsUndoable script.new }
+    requires { IsUndoable T.undo T.sound T.admits T.numbers script.old }
+    ensures { IsUndoable T.undo T.sound T.admits T.numbers script.new }
 {
     let a = script.add(first, order)?;
     let b = script.add(second, order)?;

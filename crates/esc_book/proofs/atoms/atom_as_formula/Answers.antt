@@ -21,7 +21,7 @@ term-requires-in-Order c = (subst (HasNodes c.args.graph.now) c.in-Order.is c.re
 
 pub terms_of-requires : goal.terms_of-requires
 terms_of-requires c =
-    subst (All (λ a. a < node_count c.args.graph.now)) (sym c.nodes.ensures)
+    subst (All (λ a. a < node_count c.args.graph.now)) (sym (c.nodes.ensures ∙ c.get.ensures))
     (subst (HasNodes c.args.graph.now) c.in-Distinction.is c.requires.nodes)
 
 pub unreachable-requires : goal.unreachable-requires
@@ -46,12 +46,12 @@ returns-in_ok-term-in-Order c t told =
 pub returns-in_ok-terms_of-in-Distinction : goal.returns-in_ok-terms_of-in-Distinction
 returns-in_ok-terms_of-in-Distinction c t told =
     let of = node_term c.args.graph.now in
-    ap formula.Distinct (c.in_ok-terms_of-in-Distinction.ensures ∙ ap (map of) c.nodes.ensures)
+    ap formula.Distinct (c.in_ok-terms_of-in-Distinction.ensures ∙ ap (map of) (c.nodes.ensures ∙ c.get.ensures))
     ∙ sym (of_form (Distinction (map of c.in-Distinction.group)) t
     (ap (told_kind c.args.graph.now) (sym c.in-Distinction.is) ∙ told))
 
 pub returns-in-Quantified : goal.returns-in-Quantified
 returns-in-Quantified c =
     if_ok _ _ c.copy.result c.copy.ensures (λ s h t told.
-    h ∙ (of_form (Quantified c.in-Quantified.formula) t
-    (ap (told_kind c.args.graph.now) (sym c.in-Quantified.is) ∙ told)).0)
+    h ∙ (c.get-in-Quantified.ensures ∙ (of_form (Quantified c.in-Quantified.formula) t
+    (ap (told_kind c.args.graph.now) (sym c.in-Quantified.is) ∙ told)).0))

@@ -1,4 +1,4 @@
-use Rattle.std.proofs.Common.{Some, arith, sym, ap, subst}
+use Rattle.std.proofs.Common.{Some, arith, sym, ap, subst, ◌∙◌}
 use Rattle.std.proofs.lemmas.Bool.{ltb-false}
 use Rattle.esc_term.specs.declared.formula.Formula.TheVariants as formula
 use Rattle.esc_book.specs.Atom.{IsGroupOf}
@@ -24,7 +24,7 @@ returns-in-Distinction-clause-some c g f s is there =
     let found = c.in-Some.ensures.lookup in
     let entry = c.in-Some.entry.now in
     let nodes = c.in-Distinction.group in
-    subst (IsGroupOf g (Some s)) (sym c.nodes.ensures) (record {
+    subst (IsGroupOf g (Some s)) (sym (c.nodes.ensures ∙ c.get-in-Distinction.ensures)) (record {
       is = ap (λ x. Some x) (form_there g f c.args.page.now is c.args.index entry found.3.0 found.1
           s (kind.Distinction nodes) there c.in-Distinction.is);
       nodes = subst (HasNodes g) c.in-Distinction.is

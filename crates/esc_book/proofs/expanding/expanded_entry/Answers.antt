@@ -1,4 +1,4 @@
-use Rattle.std.proofs.Common.{◌∷◌, [], not, true, false, arith, sym, ap, ◌∙◌}
+use Rattle.std.proofs.Common.{◌∷◌, [], length, not, true, false, arith, sym, ap, ◌∙◌}
 use Rattle.std.proofs.lemmas.Bool.{ltb-false}
 use Rattle.esc_clause.specs.Expansion.{OneOfEach, from_place}
 use Rattle.esc_book.specs.Book.{heads_of}
@@ -118,7 +118,7 @@ returns-in-Distinction c =
     let terms = expands-Distinction g f c.args.page.now is c.args.index c.in-Some.entry.now
     found.3.0 found.1 s there c.args.at begins c.in-Distinction.group
     c.in-Distinction.is in
-    h terms.0 terms.1 ∙ terms.2)
+    h terms.0 (terms.1 ∙ ap length (sym c.get-in-Distinction.ensures)) ∙ terms.2)
 
 pub returns-in-Equation : goal.returns-in-Equation
 returns-in-Equation c g f s is there begins =

@@ -2,4 +2,5 @@ use Rattle.sharing_cases.specs.Undoable.{IsUndoable}
 use Rattle.sharing_cases.proofs.tasks.of_all.Given as goal
 
 abbrev pub invariant-terms : goal.invariant-terms
-invariant-terms l = IsUndoable l.script
+invariant-terms g l = IsUndoable g.T.Undoable.undo g.T.Theory.sound g.T.Theory.admits
+    g.T.Theory.numbers l.script

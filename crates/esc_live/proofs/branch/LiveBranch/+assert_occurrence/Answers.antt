@@ -1,16 +1,13 @@
-use Rattle.std.proofs.Common.{◌≡◌, ◌+◌, ◌*◌, ◌<◌, false, get_or, [], ◌∷◌, Ok, Err, ap, sym, subst, ◌∙◌, refl, arith}
+use Rattle.std.proofs.Common.{◌≡◌, ◌+◌, ◌*◌, ◌<◌, false, get_or, [], ◌∷◌, Ok, ap, sym, subst, ◌∙◌, arith}
 use Rattle.std.proofs.lemmas.List.{get_or_default}
 use Rattle.esc_book.specs.Atom.{expansion_of}
-use Rattle.esc_book.specs.Book.{BookView, IsLiveOccurrence}
+use Rattle.esc_book.specs.Book.{BookView}
 use Rattle.esc_clause.specs.Expansion as expansion
 use Rattle.esc_clause.specs.declared.occurrence.Occurrence.{Occurrence}
 use Rattle.esc_egraph.specs.declared.state.State.TheVariants as State
-use Rattle.std.specs.List.{All}
 use Rattle.esc_tableau.proofs.RunLaws.{err_is}
 use Rattle.esc_live.specs.StandingInside.{Asserts}
 use Rattle.esc_live.specs.View.{logged}
-use Rattle.esc_live.proofs.ClausesExpanded.{reaches_clauses, steps_added}
-use Rattle.esc_live.proofs.Judged.{closed_by_no, reaches_yes}
 use Rattle.esc_live.proofs.LiveNotes.{live_both, live_nothing}
 use Rattle.esc_live.proofs.OccurrenceSteps.{asserts_parts, never_closed, parts_fall, parts_live}
 use Rattle.esc_live.proofs.OccurrenceSteps.{size_falls}
@@ -22,46 +19,10 @@ use Rattle.esc_live.proofs.branch.LiveBranch.+assert_occurrence.Goals as goal
 abbrev no_occurrence : Occurrence
 no_occurrence = record { fact = 0; place = 0; positive = false }
 
--- ---- one occurrence
-
-pub assert_occurrence-expand-requires : goal.assert_occurrence-expand-requires
-assert_occurrence-expand-requires t c = (
-  omega arith,
-  (
-    c.requires.standing,
-    (c.requires.given, (c.requires.live, sym c.truth_of.ensures ∙ c.in-Open.is)),
-  ),
-)
-
-pub assert_occurrence-returns-in-Yes-clause-ends : goal.assert_occurrence-returns-in-Yes-clause-ends
-assert_occurrence-returns-in-Yes-clause-ends t c =
-    reaches_yes c.args.self.now c.requires.standing c.args.at c.requires.live
-    (sym c.truth_of.ensures ∙ c.in-Yes.is)
-
-pub assert_occurrence-returns-in-Yes-clause-steps :
-    goal.assert_occurrence-returns-in-Yes-clause-steps
-assert_occurrence-returns-in-Yes-clause-steps t c = steps_nothing c.args.self.now c.requires.given
-
-pub assert_occurrence-returns-in-Yes-clause-undo : goal.assert_occurrence-returns-in-Yes-clause-undo
-assert_occurrence-returns-in-Yes-clause-undo t c =
-    live_nothing c.args.trail.now.records c.args.self.now
-
-pub assert_occurrence-returns-in-No-clause-ends : goal.assert_occurrence-returns-in-No-clause-ends
-assert_occurrence-returns-in-No-clause-ends t c =
-    closed_by_no c.args.self.now c.requires.standing.shared c.args.at c.requires.live
-    (sym c.truth_of.ensures ∙ c.in-No.is)
-
-pub assert_occurrence-returns-in-No-clause-steps : goal.assert_occurrence-returns-in-No-clause-steps
-assert_occurrence-returns-in-No-clause-steps t c = steps_nothing c.args.self.now c.requires.given
-
-pub assert_occurrence-returns-in-No-clause-undo : goal.assert_occurrence-returns-in-No-clause-undo
-assert_occurrence-returns-in-No-clause-undo t c =
-    live_nothing c.args.trail.now.records c.args.self.now
-
 -- ---- its parts
 
-pub expand-assert_all-requires : goal.expand-assert_all-requires
-expand-assert_all-requires t c =
+pub assert_occurrence-assert_all-requires : goal.assert_occurrence-assert_all-requires
+assert_occurrence-assert_all-requires t c =
     let expands : expansion.expanded (logged c.args.self.now) c.args.at
     ≡ expansion.AllOf c.as_slice.result.now =
     sym c.in-Ok.ensures ∙ (ap expansion_of c.in-AllOf.is
@@ -78,8 +39,9 @@ expand-assert_all-requires t c =
       ),
     )
 
-pub expand-returns-in-AllOf-clause-ends : goal.expand-returns-in-AllOf-clause-ends
-expand-returns-in-AllOf-clause-ends t c =
+pub assert_occurrence-returns-in-AllOf-clause-ends :
+    goal.assert_occurrence-returns-in-AllOf-clause-ends
+assert_occurrence-returns-in-AllOf-clause-ends t c =
     let expands : expansion.expanded (logged c.args.self.now) c.args.at
     ≡ expansion.AllOf c.as_slice.result.now =
     sym c.in-Ok.ensures ∙ (ap expansion_of c.in-AllOf.is
@@ -90,35 +52,43 @@ expand-returns-in-AllOf-clause-ends t c =
 
 -- ---- its clauses
 
-pub expand-returns-in-Ok-add_clauses-clause-ends : goal.expand-returns-in-Ok-add_clauses-clause-ends
-expand-returns-in-Ok-add_clauses-clause-ends t c =
-    let expands : expansion.expanded (logged c.args.self.now) c.args.at
-    ≡ expansion.OneOfEach c.as_slice-in-OneOfEach.result.now =
+pub assert_occurrence-assert_clauses-requires-clause-expands :
+    goal.assert_occurrence-assert_clauses-requires-clause-expands
+assert_occurrence-assert_clauses-requires-clause-expands t c =
     sym c.in-Ok.ensures ∙ (ap expansion_of c.in-OneOfEach.is
-    ∙ ap expansion.OneOfEach (sym c.as_slice-in-OneOfEach.ensures)) in
-    reaches_clauses c.expansion_laws.ensures.sound c.args.self.now c.requires.standing c.args.at
-    c.requires.live c.as_slice-in-OneOfEach.result.now expands c.add_clauses.new.self
-    c.in-Ok-add_clauses.ensures.ok
+    ∙ ap expansion.OneOfEach (sym c.as_slice-in-OneOfEach.ensures))
 
-pub expand-returns-in-Ok-add_clauses-clause-steps : goal.expand-returns-in-Ok-add_clauses-clause-steps
-expand-returns-in-Ok-add_clauses-clause-steps t c =
-    steps_added c.args.self.now c.add_clauses.new.self c.requires.given c.add_clauses.ensures.adds
+-- ---- a literal
 
-pub expand-returns-in_default-clause-undo : goal.expand-returns-in_default-clause-undo
-expand-returns-in_default-clause-undo t c = live_nothing c.args.trail.now.records c.args.self.now
+pub assert_occurrence-assert_once-requires-clause-literal :
+    goal.assert_occurrence-assert_once-requires-clause-literal
+assert_occurrence-assert_once-requires-clause-literal t c =
+    sym c.in-Ok.ensures ∙ ap expansion_of c.in-Literal.is
 
 -- ---- it cannot be
 
-pub expand-returns-in-Never-clause-ends : goal.expand-returns-in-Never-clause-ends
-expand-returns-in-Never-clause-ends t c =
+pub assert_occurrence-returns-in-Never-clause-ends :
+    goal.assert_occurrence-returns-in-Never-clause-ends
+assert_occurrence-returns-in-Never-clause-ends t c =
     never_closed c.args.self.now c.args.at c.expansion_laws.ensures.sound
     (sym c.in-Ok.ensures ∙ ap expansion_of c.in-Never.is)
 
-pub expand-returns-in-Never-clause-steps : goal.expand-returns-in-Never-clause-steps
-expand-returns-in-Never-clause-steps t c = steps_nothing c.args.self.now c.requires.given
+pub assert_occurrence-returns-in-Never-clause-steps :
+    goal.assert_occurrence-returns-in-Never-clause-steps
+assert_occurrence-returns-in-Never-clause-steps t c =
+    steps_nothing c.args.self.now c.requires.given
 
-pub expand-returns-in-Never-clause-undo : goal.expand-returns-in-Never-clause-undo
-expand-returns-in-Never-clause-undo t c = live_nothing c.args.trail.now.records c.args.self.now
+pub assert_occurrence-returns-in-Never-clause-undo :
+    goal.assert_occurrence-returns-in-Never-clause-undo
+assert_occurrence-returns-in-Never-clause-undo t c =
+    live_nothing c.args.trail.now.records c.args.self.now
+
+-- ---- memory is wanting
+
+pub assert_occurrence-returns-in_default-clause-undo :
+    goal.assert_occurrence-returns-in_default-clause-undo
+assert_occurrence-returns-in_default-clause-undo t c =
+    live_nothing c.args.trail.now.records c.args.self.now
 
 -- ---- in order
 

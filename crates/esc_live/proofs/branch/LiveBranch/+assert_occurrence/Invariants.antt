@@ -1,4 +1,4 @@
-use Rattle.std.proofs.Common.{ℕ, ◌+◌, ◌*◌, take}
+use Rattle.std.proofs.Common.{◌+◌, ◌*◌, take}
 use Rattle.esc_live.specs.StandingInside.{Reaches, Steps}
 use Rattle.esc_live.specs.View.{logged}
 use Rattle.esc_live.proofs.LiveNotes.{LiveNotes}
@@ -7,9 +7,6 @@ use Rattle.esc_live.proofs.branch.LiveBranch.+assert_occurrence.Given as goal
 
 abbrev pub decreases-assert_occurrence : goal.decreases-assert_occurrence
 decreases-assert_occurrence l = 1 + 3 * size_at (logged l.self.now) l.at
-
-abbrev pub decreases-expand : goal.decreases-expand
-decreases-expand l = 3 * size_at (logged l.self.now) l.at
 
 abbrev pub decreases-assert_all : goal.decreases-assert_all
 decreases-assert_all l = 2 + 3 * sizes_at (logged l.self.now) l.parts.now
