@@ -1,0 +1,8 @@
+use Rattle.std.proofs.Common.{◌≡◌, take, length}
+use Rattle.esc_session.proofs.batches.cut_formulas.Given as goal
+
+abbrev pub invariant-formulas : goal.invariant-formulas
+invariant-formulas l = take l.len l.formulas ≡ take l.len l.fn.formulas
+
+abbrev pub decreases-formulas : goal.decreases-formulas
+decreases-formulas l = length l.formulas
