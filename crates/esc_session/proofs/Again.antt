@@ -100,10 +100,12 @@ module _ (s w : Search) (again : IsAgain s w) where
   standing_again : (limits : Limits) (fs : List Formula) (standing : Standing) (older : Bool)
       (so : Search → Type 0) → (so s → so w) → StandsBy limits fs s standing older so
       → StandsBy limits fs w standing older so
-  standing_again limits fs (Asserted level) older so here (all, asserted, there, begun, goes, h) =
-      (all, asserted_again fs asserted, there, begun, again.levels there goes, h)
-  standing_again limits fs (Closed level) older so here (all, refuted, given, there, begun, goes, h) =
-      (all, refuted, again.given given, there, begun, again.levels there goes, h)
+  standing_again limits fs (Asserted level) older so here
+      (all, asserted, (there, begun, goes, h)) =
+      (all, asserted_again fs asserted, (there, begun, again.levels there goes, h))
+  standing_again limits fs (Closed level) older so here
+      (all, refuted, given, (there, begun, goes, h)) =
+      (all, refuted, again.given given, (there, begun, again.levels there goes, h))
   standing_again limits fs (Stopped cause) older so here (all, is, arithmetic, h) =
       (all, is, arithmetic, here h)
   standing_again limits fs Behind older so here (some, h) = (some, here h)
