@@ -1,6 +1,6 @@
 //! Formulas are assumed.
 
-ghost use Rattle.std.specs.Prelude.{◌≡◌, ◌≢◌, ℕ, [], ◌∷◌, ◌++◌, length, take};
+ghost use Rattle.std.specs.Prelude.{◌≡◌, ◌≢◌, ℕ, List, [], ◌∷◌, ◌++◌, length, take};
 ghost use Rattle.std.specs.Prelude.{IfOk, OnOk, OnErr, IsTrue, Option, None, true};
 ghost use Rattle.std.specs.List.{list_all};
 ghost use Rattle.esc_fact.specs.Legal.{IsClosedBase};
