@@ -1,3 +1,4 @@
 mod Again
 mod NewStanding
+mod Newest
 mod RestAsserted

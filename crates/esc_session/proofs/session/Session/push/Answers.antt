@@ -1,0 +1,1 @@
+use Rattle.esc_session.proofs.session.Session.push.Goals as goal
