@@ -20,7 +20,7 @@ newest_set bs older b n standing len len_is is newest =
     let last : len - 1 ≡ length older =
         omega (arith, len_is, ap length is, length_push older b) in
     let same : n ≡ b =
-        newest ∙ (ap (λ xs. get_or xs (len - 1) n) is ∙ get_or_push older b n (len - 1) last) in
+        newest ∙ (ap (λ xs. get_or xs (len - 1) n) is ∙ get_or_push older b n (len - 1) (sym last)) in
     ap₂ (λ (xs : List Batch) (one : Batch). slice_set xs (len - 1) (standing_so one standing)) is same
     ∙ set_at older b [] (standing_so b standing) (len - 1) (sym last)
 
