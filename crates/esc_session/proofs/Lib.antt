@@ -1,4 +1,5 @@
 mod Again
 mod NewStanding
 mod Newest
+mod Pushed
 mod RestAsserted
