@@ -1,5 +1,5 @@
 -- How a background that was asserted in a level stands.
-use Rattle.std.proofs.Common.{◌≡◌, None, true, IsTrue, length, refl, subst, subst₂, ap}
+use Rattle.std.proofs.Common.{◌≡◌, None, refl, subst, subst₂, ap}
 use Rattle.esc_term.specs.Laws.{RefutedAmongMore}
 use Rattle.esc_fact.specs.Fact.{formulas_of}
 use Rattle.esc_fact.specs.declared.base.Base.{Base}

@@ -1,6 +1,6 @@
 -- The newest batch of a list.
 use Rattle.std.proofs.Common.{◌≡◌, ℕ, ◌-◌, List, [], ◌∷◌, ◌++◌, length, reverse, get_or, slice_set}
-use Rattle.std.proofs.Common.{refl, sym, ap, ap₂, ◌∙◌, arith}
+use Rattle.std.proofs.Common.{sym, ap, ap₂, ◌∙◌, arith}
 use Rattle.std.proofs.lemmas.List.{get_or_push, length_push, reverse-append, reverse-reverse, set_at}
 use Rattle.esc_session.specs.declared.batch.Batch.{Batch}
 use Rattle.esc_session.specs.declared.batch.Standing.{Standing}
@@ -18,9 +18,9 @@ pub newest_set : (bs older : List Batch) (b n : Batch) (standing : Standing) (le
     → slice_set bs (len - 1) (standing_so n standing) ≡ older ++ standing_so b standing ∷ []
 newest_set bs older b n standing len len_is is newest =
     let last : len - 1 ≡ length older =
-        omega (arith, len_is, ap length is, length_push older b) in
+    omega (arith, len_is, ap length is, length_push older b) in
     let same : n ≡ b =
-        newest ∙ (ap (λ xs. get_or xs (len - 1) n) is ∙ get_or_push older b n (len - 1) (sym last)) in
+    newest ∙ (ap (λ xs. get_or xs (len - 1) n) is ∙ get_or_push older b n (len - 1) (sym last)) in
     ap₂ (λ (xs : List Batch) (one : Batch). slice_set xs (len - 1) (standing_so one standing)) is same
     ∙ set_at older b [] (standing_so b standing) (len - 1) (sym last)
 

@@ -1,6 +1,6 @@
 -- What asserting the rest of a background comes to.
-use Rattle.std.proofs.Common.{◌≡◌, ℕ, ◌<◌, ◌≤◌, List, [], ◌∷◌, ◌++◌, Option, Some, None, length, map, take}
-use Rattle.std.proofs.Common.{refl, sym, subst, ◌∙◌, arith}
+use Rattle.std.proofs.Common.{◌≡◌, ℕ, ◌≤◌, List, [], ◌∷◌, ◌++◌, Option, Some, None, length, map, take}
+use Rattle.std.proofs.Common.{refl, sym, subst, arith}
 use Rattle.std.specs.Prelude.{slice_get}
 use Rattle.std.specs.List.{All, Contains, cons_option, range_with_len}
 use Rattle.std.specs.Option.{option_map}
@@ -34,11 +34,11 @@ module _ (base : Base) where
       let many = length-map-range_with_len fact.Given 0 (length base.background) in
       subst (All IsNamed)
       (sym (take-append-le n named
-          (cons_option (option_map (λ f. fact.NegGoal) base.negated) [])
-          (omega (arith, few, many))))
+      (cons_option (option_map (λ f. fact.NegGoal) base.negated) [])
+      (omega (arith, few, many))))
       (All-take IsNamed n named
-          (All-map IsNamed fact.Given (range_with_len 0 (length base.background))
-              (λ k d below. (_, refl))))
+      (All-map IsNamed fact.Given (range_with_len 0 (length base.background))
+      (λ k d below. (_, refl))))
 
   given_within : (k : ℕ) (f : Formula) → slice_get base.background k ≡ Some f
       → Contains base.background f
@@ -59,7 +59,7 @@ module _ (base : Base) where
       let is = All-head IsNamed x fs are in
       one_more (formula_of base x) (formulas_of base fs)
       (λ f same. given_within is.0 f
-          (subst (λ (y : Fact). formula_of base y ≡ Some f) is.1 same))
+      (subst (λ (y : Fact). formula_of base y ≡ Some f) is.1 same))
       (named_within fs (All-tail IsNamed x fs are))
 
   logged_next : (s t : Search) → IsReady base s
@@ -67,10 +67,10 @@ module _ (base : Base) where
   logged_next s t ready next =
       named_within t.log
       (subst (All IsNamed) (sym next)
-          (All-push IsNamed s.log (fact.Given (length s.log))
-              (subst (All IsNamed) (sym ready.log)
-                  (front_named (length s.log) ready.without_goal))
-              (length s.log, refl)))
+      (All-push IsNamed s.log (fact.Given (length s.log))
+      (subst (All IsNamed) (sym ready.log)
+      (front_named (length s.log) ready.without_goal))
+      (length s.log, refl)))
 
   pub rest_ends : (s t : Search) (came : Outcome) → (came ≡ outcome.Open → ⊥) → IsReady base s
       → GivenEnds base t came → LogsGiven s.log t.log came → RestEnds base t came

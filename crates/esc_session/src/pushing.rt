@@ -1,7 +1,7 @@
 //! Formulas are assumed.
 
 ghost use Rattle.std.specs.Prelude.{◌≡◌, ◌≢◌, ℕ, List, [], ◌∷◌, ◌++◌, length, take};
-ghost use Rattle.std.specs.Prelude.{IfOk, OnOk, OnErr, IsTrue, Option, None, true};
+ghost use Rattle.std.specs.Prelude.{IfOk, OnOk, OnErr, IsTrue, Option, None};
 ghost use Rattle.std.specs.List.{list_all};
 ghost use Rattle.esc_fact.specs.Legal.{IsClosedBase};
 ghost use Rattle.esc_live.specs.Promises.{IsGiven};
@@ -9,7 +9,7 @@ ghost use Rattle.esc_search.specs.Levels.{KeepsLevels};
 ghost use Rattle.esc_search.specs.Proving.{IsReady};
 ghost use Rattle.esc_session.specs.Acts.{Joins, Rests};
 ghost use Rattle.esc_session.specs.Back.{IsAgain};
-ghost use Rattle.esc_session.specs.Between.{IsBetween, StandsBy};
+ghost use Rattle.esc_session.specs.Between.{IsBetween};
 ghost use Rattle.esc_session.specs.PushingInside.{GivesStanding, RestEnds, joined};
 ghost use Rattle.esc_session.specs.SessionInside.{LeavesRest};
 ghost use Rattle.esc_session.specs.declared.batch.Batch.{Batch as Batches};
@@ -24,11 +24,7 @@ use esc_term::{Copied, Formula, Formulas, Sym, refutation_laws};
 use std::alloc::{AllocError, Global};
 
 /// Puts copies of more formulas behind these, as far as there is memory.
-fn add_copies(
-    alloc: Global,
-    formulas: &mut Formulas,
-    more: &[Formula],
-) -> Result<(), AllocError>
+fn add_copies(alloc: Global, formulas: &mut Formulas, more: &[Formula]) -> Result<(), AllocError>
     ensures all { OnOk result (formulas.new ≡ formulas.old ++ more.now) }
     ensures front { OnErr result (take (length formulas.old) formulas.new ≡ formulas.old) }
 {
@@ -40,11 +36,7 @@ fn add_copies(
 
 /// Puts copies of more formulas behind these. It fails only where memory is wanting, and then
 /// leaves them as they were.
-fn add_formulas(
-    alloc: Global,
-    formulas: &mut Formulas,
-    more: &[Formula],
-) -> Result<(), AllocError>
+fn add_formulas(alloc: Global, formulas: &mut Formulas, more: &[Formula]) -> Result<(), AllocError>
     ensures all { OnOk result (formulas.new ≡ formulas.old ++ more.now) }
     ensures none { OnErr result (formulas.new ≡ formulas.old) }
 {
@@ -136,7 +128,7 @@ impl Session {
         requires { self.old.batches ≢ [] }
         ensures { (older : List Batches) (b : Batches) → self.old.batches ≡ older ++ b ∷ []
             → self.new ≡ record self.old {
-                batches = older ++ record b { standing = standing } ∷ [];
+              batches = older ++ record b { standing = standing } ∷ [];
             } }
     {
         let last = self.batches.len() - 1;

@@ -1,7 +1,4 @@
-use Rattle.std.proofs.Common.{Result, Ok, Err, OnErr, ◌∙◌}
-use Rattle.esc_search.specs.Levels.{CanReturn, GoesBackTo}
-use Rattle.esc_search.specs.declared.outcome.Outcome.TheVariants as outcome
-use Rattle.esc_session.specs.Back.{IsAgain}
+use Rattle.std.proofs.Common.{Result, Ok, Err, OnErr}
 use Rattle.esc_session.proofs.Again.{again_ended, again_here}
 use Rattle.esc_session.proofs.NewStanding.{stands_asserted, stands_closed, stands_stopped}
 use Rattle.esc_session.proofs.pushing.stand.Goals as goal
@@ -40,7 +37,7 @@ returns-in-Open-clause-stands c =
     stands_asserted c.args.base.now c.requires.no_goal c.args.search.now c.assert_rest.new.search
     c.in_ok-level.level c.in_ok-level.ensures.begun
     (c.assert_rest.ensures.levels c.args.search.now
-        (c.search_laws.ensures.here c.args.search.now))
+    (c.search_laws.ensures.here c.args.search.now))
     c.in-Open.ensures.ends
 
 pub returns-in-Closed-clause-stands : goal.returns-in-Closed-clause-stands
@@ -48,7 +45,7 @@ returns-in-Closed-clause-stands c =
     stands_closed c.args.base.now c.requires.no_goal c.args.search.now c.assert_rest.new.search
     c.in_ok-level.level c.in_ok-level.ensures.begun
     (c.assert_rest.ensures.levels c.args.search.now
-        (c.search_laws.ensures.here c.args.search.now))
+    (c.search_laws.ensures.here c.args.search.now))
     c.refutation_laws.ensures.more c.assert_rest.ensures.given c.in-Closed.ensures.ends
 
 pub returns-in-Stopped-clause-stands : goal.returns-in-Stopped-clause-stands
@@ -57,16 +54,16 @@ returns-in-Stopped-clause-stands c =
     c.end_level.new.self c.in-Stopped.cause c.assert_rest.ensures.limits
     c.in-Stopped.ensures.ends
     (again_ended c.in_ok-level.level c.args.search.now c.assert_rest.new.search
-        c.end_level.new.self c.end_level.ensures.back c.end_level.ensures.ready
-        c.end_level.ensures.given c.in_ok-level.ensures.begun
-        (c.assert_rest.ensures.levels c.args.search.now
-            (c.search_laws.ensures.here c.args.search.now)))
+    c.end_level.new.self c.end_level.ensures.back c.end_level.ensures.ready
+    c.end_level.ensures.given c.in_ok-level.ensures.begun
+    (c.assert_rest.ensures.levels c.args.search.now
+    (c.search_laws.ensures.here c.args.search.now)))
 
 pub returns-in-Stopped-clause-limits : goal.returns-in-Stopped-clause-limits
 returns-in-Stopped-clause-limits c =
     (c.end_level.ensures.back.as_before c.args.search.now c.in_ok-level.ensures.begun
-        (c.assert_rest.ensures.levels c.args.search.now
-            (c.search_laws.ensures.here c.args.search.now))).limits
+    (c.assert_rest.ensures.levels c.args.search.now
+    (c.search_laws.ensures.here c.args.search.now))).limits
 
 pub returns-in-Memory-clause-again : goal.returns-in-Memory-clause-again
 returns-in-Memory-clause-again c =
@@ -75,10 +72,10 @@ returns-in-Memory-clause-again c =
     c.end_level-in-Memory.ensures.ready c.end_level-in-Memory.ensures.given
     c.in_ok-level.ensures.begun
     (c.assert_rest.ensures.levels c.args.search.now
-        (c.search_laws.ensures.here c.args.search.now))
+    (c.search_laws.ensures.here c.args.search.now))
 
 pub returns-in-Memory-clause-limits : goal.returns-in-Memory-clause-limits
 returns-in-Memory-clause-limits c =
     (c.end_level-in-Memory.ensures.back.as_before c.args.search.now c.in_ok-level.ensures.begun
-        (c.assert_rest.ensures.levels c.args.search.now
-            (c.search_laws.ensures.here c.args.search.now))).limits
+    (c.assert_rest.ensures.levels c.args.search.now
+    (c.search_laws.ensures.here c.args.search.now))).limits

@@ -1,4 +1,4 @@
-use Rattle.std.proofs.Common.{◌≡◌, List, [], ◌∷◌, ◌++◌, Result, Ok, Err, OnErr, true, IsTrue, length}
+use Rattle.std.proofs.Common.{[], ◌∷◌, ◌++◌, Result, Ok, Err, OnErr}
 use Rattle.std.proofs.Common.{refl, ap, sym, subst, ◌∙◌}
 use Rattle.esc_fact.specs.Legal.{IsClosedBase}
 use Rattle.esc_search.specs.Proving.{IsReady}
@@ -41,7 +41,7 @@ returns-then-not-open-clause-between c =
     let is = c.in_ok-join.ensures.joins ∙ ap (joined s c.args.predicate) c.as_slice.ensures in
     subst IsBetween (sym is)
     (between_behind s c.args.predicate fs c.requires.between c.requires.closed
-        (sym c.if-not-open.ensures))
+    (sym c.if-not-open.ensures))
 
 pub stand-requires-clause-closed : goal.stand-requires-clause-closed
 stand-requires-clause-closed c =
@@ -58,7 +58,7 @@ stand-requires-clause-ready c =
     let is = c.in_ok-join.ensures.joins ∙ ap (joined s c.args.predicate) c.as_slice.ensures in
     subst (λ (t : Session). IsReady t.base t.search) (sym is)
     (ready_joined s c.args.predicate fs c.requires.between c.search_laws.ensures.ready
-        (sym c.if-not-open.ensures))
+    (sym c.if-not-open.ensures))
 
 pub returns-in-Ok-clause-joins : goal.returns-in-Ok-clause-joins
 returns-in-Ok-clause-joins c =
@@ -68,14 +68,14 @@ returns-in-Ok-clause-joins c =
     let so = batch_so s c.args.predicate fs c.requires.between in
     let is = c.in_ok-join.ensures.joins ∙ ap (joined s c.args.predicate) c.as_slice.ensures in
     let now = c.stand_newest.ensures s.batches (so Behind) (ap (λ (t : Session). t.batches) is)
-        ∙ ap (λ (t : Session). record t {
-          batches = s.batches ++ so c.in-Ok.standing ∷ [];
-          search = w;
-        }) is in
+    ∙ ap (λ (t : Session). record t {
+      batches = s.batches ++ so c.in-Ok.standing ∷ [];
+      search = w;
+    }) is in
     subst (λ (t : Session). Joins s t c.args.predicate fs) (sym now)
     (joins_so s c.args.predicate fs c.requires.between w c.in-Ok.standing
-        (subst (λ (t : Session). GivesStanding t.base t.search w c.in-Ok.standing) is
-            c.in-Ok.ensures.stands))
+    (subst (λ (t : Session). GivesStanding t.base t.search w c.in-Ok.standing) is
+    c.in-Ok.ensures.stands))
 
 pub returns-in-Ok-clause-between : goal.returns-in-Ok-clause-between
 returns-in-Ok-clause-between c =
@@ -85,16 +85,16 @@ returns-in-Ok-clause-between c =
     let so = batch_so s c.args.predicate fs c.requires.between in
     let is = c.in_ok-join.ensures.joins ∙ ap (joined s c.args.predicate) c.as_slice.ensures in
     let now = c.stand_newest.ensures s.batches (so Behind) (ap (λ (t : Session). t.batches) is)
-        ∙ ap (λ (t : Session). record t {
-          batches = s.batches ++ so c.in-Ok.standing ∷ [];
-          search = w;
-        }) is in
+    ∙ ap (λ (t : Session). record t {
+      batches = s.batches ++ so c.in-Ok.standing ∷ [];
+      search = w;
+    }) is in
     subst IsBetween (sym now)
     (between_so s c.args.predicate fs c.requires.between w c.in-Ok.standing
-        (subst (λ (t : Session). GivesStanding t.base t.search w c.in-Ok.standing) is
-            c.in-Ok.ensures.stands)
-        c.requires.closed (sym c.if-not-open.ensures)
-        (c.stand.ensures.limits ∙ ap (λ (t : Session). t.search.limits) is))
+    (subst (λ (t : Session). GivesStanding t.base t.search w c.in-Ok.standing) is
+    c.in-Ok.ensures.stands)
+    c.requires.closed (sym c.if-not-open.ensures)
+    (c.stand.ensures.limits ∙ ap (λ (t : Session). t.search.limits) is))
 
 pub returns-clause-between : goal.returns-clause-between
 returns-clause-between c =
@@ -104,6 +104,6 @@ returns-clause-between c =
     let is = c.in_ok-join.ensures.joins ∙ ap (joined s c.args.predicate) c.as_slice.ensures in
     subst IsBetween
     (sym (taken_is s c.args.predicate fs c.requires.between c.join.new.self c.take_newest.new.self w
-        c.take_newest.result is c.take_newest.ensures.batches c.take_newest.ensures.rest))
+    c.take_newest.result is c.take_newest.ensures.batches c.take_newest.ensures.rest))
     (between_again s c.args.predicate fs c.requires.between w
-        (subst (λ (t : Session). IsAgain t.search w) is c.in-Err.ensures.again))
+    (subst (λ (t : Session). IsAgain t.search w) is c.in-Err.ensures.again))
