@@ -1,7 +1,8 @@
 -- The newest batch of a list.
 use Rattle.std.proofs.Common.{◌≡◌, ℕ, ◌-◌, List, [], ◌∷◌, ◌++◌, length, reverse, get_or, slice_set}
 use Rattle.std.proofs.Common.{sym, ap, ap₂, ◌∙◌, arith}
-use Rattle.std.proofs.lemmas.List.{get_or_push, length_push, reverse-append, reverse-reverse, set_at}
+use Rattle.std.proofs.lemmas.List.{get_or_push, length_push, reverse-append, set_at}
+use Rattle.std.proofs.lemmas.List.{reverse-reverse}
 use Rattle.esc_session.specs.declared.batch.Batch.{Batch}
 use Rattle.esc_session.specs.declared.batch.Standing.{Standing}
 
@@ -21,7 +22,8 @@ newest_set bs older b n standing len len_is is newest =
     omega (arith, len_is, ap length is, length_push older b) in
     let same : n ≡ b =
     newest ∙ (ap (λ xs. get_or xs (len - 1) n) is ∙ get_or_push older b n (len - 1) (sym last)) in
-    ap₂ (λ (xs : List Batch) (one : Batch). slice_set xs (len - 1) (standing_so one standing)) is same
+    ap₂ (λ (xs : List Batch) (one : Batch). slice_set xs (len - 1) (standing_so one standing)) is
+    same
     ∙ set_at older b [] (standing_so b standing) (len - 1) (sym last)
 
 pub newest_first_is : (older : List Batch) (b : Batch)

@@ -1,5 +1,5 @@
 -- What holds of a session to which a batch came.
-use Rattle.std.proofs.Common.{◌≡◌, ◌≤◌, ℕ, Bool, true, false, IsTrue, List, [], ◌∷◌, ◌++◌, Option, None}
+use Rattle.std.proofs.Common.{◌≡◌, ◌≤◌, ℕ, Bool, true, false, IsTrue, List, [], ◌∷◌, ◌++◌, Option}
 use Rattle.std.proofs.Common.{length, take, refl, sym, ap, ap₂, subst, ◌∙◌, append-nil, arith}
 use Rattle.std.proofs.Common.{length-append}
 use Rattle.std.specs.List.{All, cons_option, list_all}
@@ -103,7 +103,8 @@ module _ (s : Session) (predicate : Option (Sym × ℕ)) (fs : List Formula) (be
     pub ready_joined : ReadyIsAlike → IsTrue (is_open (newest_first s))
         → IsReady (joined s predicate fs).base s.search
     ready_joined alike opened =
-        let asserted = open_asserted s.limits before (newest_first s) s.search between.stands opened in
+        let asserted =
+        open_asserted s.limits before (newest_first s) s.search between.stands opened in
         alike (assuming before) (joined s predicate fs).base s.search
         (take-append-le (length s.search.log) before fs (omega (arith, asserted.all)))
         (omega (arith, asserted.all, length-append before fs)) asserted.ready
