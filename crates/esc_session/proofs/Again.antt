@@ -1,5 +1,5 @@
 -- A search that is again as it was stands as it did.
-use Rattle.std.proofs.Common.{◌≡◌, List, [], ◌∷◌, take, refl, sym, ap, ◌∙◌}
+use Rattle.std.proofs.Common.{List, [], ◌∷◌, take, refl, ap, ◌∙◌}
 use Rattle.std.specs.Prelude.{Bool, length}
 use Rattle.esc_term.specs.declared.formula.Formula.{Formula}
 use Rattle.esc_fact.specs.declared.base.Base.{Base}

@@ -1,3 +1,7 @@
 mod Again
 mod GoingBack
+mod NewStanding
+mod Newest
 mod NewestEnds
+mod Pushed
+mod RestAsserted

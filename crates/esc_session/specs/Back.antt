@@ -1,5 +1,5 @@
 -- How a session goes back to where it stood before its newest batches.
-use Rattle.std.specs.Prelude.{◌≡◌, List, [], ◌∷◌}
+use Rattle.std.specs.Prelude.{List, [], ◌∷◌}
 use Rattle.esc_fact.specs.declared.base.Base.{Base}
 use Rattle.esc_live.specs.Promises.{IsGiven}
 use Rattle.esc_search.specs.Levels.{GoesBackTo, IsAsBefore, IsBegunAt, KeepsLevels}

@@ -1,5 +1,5 @@
 -- What holds of a session between commands.
-use Rattle.std.specs.Prelude.{◌≡◌, ◌≤◌, Bool, true, false, IsTrue, List, [], ◌∷◌, None, length, take}
+use Rattle.std.specs.Prelude.{◌≡◌, ◌≤◌, Bool, false, IsTrue, List, [], ◌∷◌, None, length, take}
 use Rattle.esc_term.specs.declared.formula.Formula.{Formula}
 use Rattle.esc_term.specs.Refuted.{Refuted}
 use Rattle.esc_fact.specs.Legal.{IsClosedBase}

@@ -4,5 +4,6 @@ pub mod Between
 pub mod Counted
 pub mod Laws
 pub mod PoppingInside
+pub mod PushingInside
 pub mod SessionInside
 pub mod View
