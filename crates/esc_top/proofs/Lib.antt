@@ -1,7 +1,6 @@
 pub mod Answering
 pub mod Commands
 pub mod FirstNames
-pub mod GoalReports
 pub mod ProgressLemmas
 pub mod RanLemmas
 pub mod ReadingLemmas

@@ -1,5 +1,6 @@
 -- How a run comes further.
-use Rattle.std.proofs.Common.{ℕ, Bool, false, IsTrue, List, [], ◌∷◌, ◌++◌, append-nil, Option, refl, subst}
+use Rattle.std.proofs.Common.{◌≡◌, ℕ, Bool, false, IsTrue, List, [], ◌∷◌, ◌++◌, append-nil}
+use Rattle.std.proofs.Common.{Option, refl, subst}
 use Rattle.std.specs.Io.KnownBytes.{IsAtEnd}
 use Rattle.esc_io.specs.Taking.{Takes}
 use Rattle.esc_io.proofs.TakingLemmas.{Takes-start, Takes-then}
@@ -33,9 +34,9 @@ progress_start limits left = record {
 -- an expression is answered
 abbrev pub progress_told : {left rest : Option (List ℕ)} (limits : Limits)
     (p : Progress limits left rest) (e : Sexp) (told : Told) (now : State)
-    → Extends p.names told.names → HasDistinctRows told.names
+    → Extends p.names told.names → HasDistinctRows told.names → told.before ≡ p.state
     → AnswersExpression limits told.names p.state e told.report now → Progress limits left rest
-progress_told limits p e told now names distinct answers = record {
+progress_told limits p e told now names distinct here answers = record {
   taken = p.taken;
   ended = p.ended;
   expressions = p.expressions ++ e ∷ [];
@@ -46,7 +47,7 @@ progress_told limits p e told now names distinct answers = record {
   at_end = p.at_end;
   distinct = distinct;
   answers = AnswersAll-push limits first_names first_state p.expressions p.told p.names p.state e
-      told now p.answers names answers;
+      told now p.answers names here answers;
 }
 
 -- bytes are taken

@@ -1,5 +1,6 @@
 -- One report more.
-use Rattle.std.proofs.Common.{◌≡◌, ℕ, Bool, true, false, ◌&&◌, List, [], ◌∷◌, ◌++◌, refl, ap, subst, ◌∙◌}
+use Rattle.std.proofs.Common.{◌≡◌, ℕ, Bool, true, false, ◌&&◌, List, [], ◌∷◌, ◌++◌, refl, ap}
+use Rattle.std.proofs.Common.{subst, ◌∙◌}
 use Rattle.std.proofs.lemmas.List.{append-nil}
 use Rattle.std.proofs.lemmas.List.Concat.{flat_map-append}
 use Rattle.esc_options.specs.declared.options.Limits.{Limits}
@@ -15,22 +16,25 @@ module _ (limits : Limits) where
   pub AnswersAll-push : (names : List (List ℕ)) (s : State) (es : List Sexp) (tolds : List Told)
       (between : List (List ℕ)) (before : State) (e : Sexp) (told : Told) (now : State)
       → AnswersAll limits names s es tolds between before → Extends between told.names
-      → AnswersExpression limits told.names before e told.report now
+      → told.before ≡ before → AnswersExpression limits told.names before e told.report now
       → AnswersAll limits names s (es ++ e ∷ []) (tolds ++ told ∷ []) told.names now
-  AnswersAll-push names s [] [] between before e told now h grown answers = (
+  AnswersAll-push names s [] [] between before e told now h grown here answers = (
     now,
     subst (λ (n : List (List ℕ)). Extends n told.names) h.0 grown,
+    here ∙ h.1,
     subst (λ (k : State). AnswersExpression limits told.names k e told.report now) h.1 answers,
     (refl, refl),
   )
-  AnswersAll-push names s (first ∷ es) (t ∷ tolds) between before e told now h grown answers = (
-    h.0,
-    h.1,
-    h.2,
-    AnswersAll-push t.names h.0 es tolds between before e told now h.3 grown answers,
-  )
-  AnswersAll-push names s [] (t ∷ tolds) between before e told now h grown answers = absurd h
-  AnswersAll-push names s (first ∷ es) [] between before e told now h grown answers = absurd h
+  AnswersAll-push names s (first ∷ es) (t ∷ tolds) between before e told now h grown here
+      answers = (
+        h.0,
+        h.1,
+        h.2,
+        h.3,
+        AnswersAll-push t.names h.0 es tolds between before e told now h.4 grown here answers,
+      )
+  AnswersAll-push names s [] (t ∷ tolds) between before e told now h grown here answers = absurd h
+  AnswersAll-push names s (first ∷ es) [] between before e told now h grown here answers = absurd h
 
 pub texts-push : (show : Show) (tolds : List Told) (told : Told)
     → texts show (tolds ++ told ∷ [])

@@ -8,7 +8,6 @@ use Rattle.esc_io.specs.Putting.{Grows, GrowsByFront, Puts}
 use Rattle.esc_io.specs.Taking.{Takes}
 use Rattle.esc_io.proofs.PuttingLemmas.{Grows-start, Grows-then, Grows-flushed}
 use Rattle.esc_io.proofs.PuttingLemmas.{GrowsByFront-then, GrowsByFront-whole}
-use Rattle.esc_names.specs.Numbering.{first_names}
 use Rattle.esc_options.specs.declared.options.Options.{Options}
 use Rattle.esc_read.specs.Reading.{Extends}
 use Rattle.esc_sexp.specs.declared.sexp.Sexp.{Sexp}
@@ -18,6 +17,7 @@ use Rattle.esc_sexp.specs.Unread.{Unread, Forgets, Gives, HasFault, fault_by}
 use Rattle.esc_report.specs.Text.{report_text}
 use Rattle.esc_answers.specs.State.{State}
 use Rattle.esc_top.specs.Answers.{AnswersExpression}
+use Rattle.esc_top.specs.DeskInside.{IsNew}
 use Rattle.esc_top.specs.Progress.{Progress}
 use Rattle.esc_top.specs.Ran.{IsCounted, IsReadTo}
 use Rattle.esc_top.specs.Reading.{HasFirst, max_input}
@@ -45,19 +45,18 @@ zero_within = omega arith
 -- nothing was read
 pub underway_start : (options : Options) (left written : Option (List ℕ)) (unread : Unread)
     (desk : Desk) → unread ≡ record { place = 0; bytes = []; finished = false; fault = None }
-    → desk.options ≡ options → desk.names ≡ first_names → desk.goals ≡ 0
-    → desk.all_proved ≡ true → Underway options left left written written unread desk
-underway_start options left written unread desk is asked names goals clean = record {
+    → IsNew options desk → Underway options left left written written unread desk
+underway_start options left written unread desk is new = record {
   progress = progress_start options.limits left;
   ended = sym (ap (λ (u : Unread). u.finished) is);
   untold = ap (λ (u : Unread). u.fault) is;
   behind = behind_start unread is;
   reached = subst (λ (u : Unread). u.place + length u.bytes ≡ 0) (sym is) refl;
   within = zero_within;
-  options_are = asked;
-  names = sym names;
-  state = ap (λ n. let s : State = record { goals = n } in s) (sym goals);
-  clean = clean;
+  options_are = new.options_are;
+  names = sym new.names;
+  state = sym new.state;
+  clean = new.clean;
   grown = Grows-start written;
 }
 
@@ -69,10 +68,10 @@ module _ {E : Type 0} {options : Options} {left rest written now after : Option 
   answered : Progress options.limits left rest
   answered =
       progress_told options.limits h.progress e
-      (record { names = desk'.names; report = answers.report })
+      (record { names = desk'.names; before = state_of desk; report = answers.report })
       (state_of desk')
       (subst (λ (n : List (List ℕ)). Extends n desk'.names) (sym h.names) answers.names)
-      answers.distinct
+      answers.distinct (sym h.state)
       (subst (λ (s : State). AnswersExpression options.limits desk'.names s e answers.report
       (state_of desk')) (sym h.state)
       (subst (λ (o : Options). AnswersExpression o.limits desk'.names (state_of desk) e
@@ -90,7 +89,11 @@ pub underway_told : {E : Type 0} {options : Options} {left rest written now afte
 unfolding answered
 underway_told {E} {options} {left} {rest} {written} {now} {after} stays old new desk desk' e h
     gives answers =
-    let told : Told = record { names = desk'.names; report = answers.report } in
+    let told : Told = record {
+      names = desk'.names;
+      before = state_of desk;
+      report = answers.report;
+    } in
     record {
       progress = answered old desk desk' e (Ok tt) h answers;
       ended = h.ended ∙ sym (ap (λ (u : Unread). u.finished) gives.rest);
@@ -116,7 +119,11 @@ pub broken_told : {E : Type 0} {options : Options} {left rest written now after 
 unfolding answered
 broken_told {E} {options} {left} {rest} {written} {now} {after} stays old new desk desk' e failed
     h gives answers =
-    let told : Told = record { names = desk'.names; report = answers.report } in
+    let told : Told = record {
+      names = desk'.names;
+      before = state_of desk;
+      report = answers.report;
+    } in
     let finished : h.progress.ended ≡ new.finished = h.ended
     ∙ sym (ap (λ (u : Unread). u.finished) gives.rest) in
     let es : List Sexp = h.progress.expressions ++ e ∷ [] in

@@ -82,16 +82,17 @@ IsGoal e told goal =
     (place : ℕ) × ReadsAs told.names e (Ok (record { place = place; kind = Goal goal }))
 
 -- where the expression is a goal of the kind that is answered, and is said to be valid, its
--- negation is refuted
+-- negation is refuted with what was assumed then
 abbrev pub IsSoundAt : Sexp → Told → Type 0
 IsSoundAt e told = (goal : Formula) → IsGoal e told goal → IsTrue (is_supported goal)
-    → IsSoundOf goal told.report
+    → IsSoundOf told.before.assumed goal told.report
 
--- where it is one without arithmetic, it is said to be valid just where its negation is refuted,
--- unless memory or splits are wanting
+-- where both have no arithmetic, it is said to be valid just where its negation is refuted with
+-- what was assumed, unless memory or splits are wanting
 abbrev pub IsSharpAt : Limits → Sexp → Told → Type 0
-IsSharpAt limits e told = (goal : Formula) → IsGoal e told goal → IsFreeGoal goal
-    → IsSharpOf goal limits told.report
+IsSharpAt limits e told = (goal : Formula) → IsGoal e told goal
+    → IsFreeGoal told.before.assumed goal
+    → IsSharpOf told.before.assumed goal limits told.report
 
 -- so it is with each expression and its report
 abbrev pub RunsAreSound : Type 0

@@ -11,9 +11,11 @@ use Rattle.esc_report.specs.declared.report.Report.TheVariants as report
 use Rattle.esc_report.specs.Text.{report_text}
 use Rattle.esc_top.specs.Answers.{AnswersExpression}
 
--- a report, with the spellings of the names by their numbers as they stood then
+-- a report, with the spellings of the names by their numbers as they stood then, and the state in
+-- which the expression was answered
 pub record Told : Type 0 where
   pub names : List (List ℕ)
+  pub before : State
   pub report : Report
 
 -- The reports answer the expressions in order: from a table of names, which only grows, and a
@@ -22,7 +24,7 @@ abbrev pub AnswersAll : Limits → List (List ℕ) → State → List Sexp → L
     → State → Type 0
 AnswersAll limits names s [] [] names_now s_now = (names_now ≡ names) × (s_now ≡ s)
 AnswersAll limits names s (e ∷ es) (told ∷ more) names_now s_now =
-    (between : State) × Extends names told.names
+    (between : State) × Extends names told.names × (told.before ≡ s)
     × AnswersExpression limits told.names s e told.report between
     × AnswersAll limits told.names between es more names_now s_now
 AnswersAll limits names s [] (told ∷ more) names_now s_now = ⊥

@@ -13,6 +13,7 @@ use Rattle.esc_sexp.specs.Unread.{ReadsAlike, Unread}
 use Rattle.esc_report.specs.declared.report.Report.{Report}
 use Rattle.esc_report.specs.Text.{report_text}
 use Rattle.esc_answers.specs.State.{State}
+use Rattle.esc_session.specs.View.{state_of as state_in}
 use Rattle.esc_words.specs.Uses.{Text}
 use Rattle.esc_words.specs.Words.{AsksFor}
 use Rattle.esc_top.specs.Answers.{AnswersExpression}
@@ -44,7 +45,7 @@ GoesOnBehind taken es unread = (finished : Bool) (more : List ℕ)
     × ReadsAlike finished after stand unread.place (unread.bytes ++ more)
 
 abbrev pub state_of : Desk → State
-state_of desk = record { goals = desk.goals }
+state_of desk = state_in desk.session
 
 -- by the options the expressions so far are answered, and the texts of the answers are written
 pub record Underway (options : Options) (left rest written now : Option (List ℕ))
@@ -132,7 +133,7 @@ pub record AnswersOne {E : Type 0} (old new : Desk) (e : Sexp) (written now : Op
   pub answers : AnswersExpression old.options.limits new.names (state_of old) e report
       (state_of new)
   pub clean : new.all_proved ≡ (old.all_proved && is_proved_report report)
-  pub few : new.goals ≤ old.goals + 1
+  pub few : new.session.goals ≤ old.session.goals + 1
   pub put : Puts written now result (report_text new.names old.options.show report)
 
 -- what a piece that is read brings, where so many bytes more may be read

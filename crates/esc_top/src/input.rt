@@ -4,6 +4,7 @@ ghost use Rattle.std.specs.Prelude.{◌≡◌, ◌+◌, ◌<◌, ◌≤◌, ◌^
 ghost use Rattle.std.specs.Prelude.{false, true, None};
 ghost use Rattle.esc_io.specs.Faults.{HasCause};
 ghost use Rattle.esc_options.specs.declared.options.Options.{Options as Asked};
+ghost use Rattle.esc_top.specs.DeskInside.{IsInOrder, IsNew};
 ghost use Rattle.esc_top.specs.Underway.{Came, EndsByCount, Feeds, IsToldByCount, Stops};
 ghost use Rattle.esc_top.specs.Underway.{StopsByCount, Underway, status_at};
 
@@ -42,12 +43,14 @@ pub enum Feeding {
 
 // Answers the expressions that are whole.
 fn answer_whole<K: Sink>(reader: &mut Reader, desk: &mut Desk, sink: &mut K) -> Result<Stop, Failed>
-    requires few { desk.old.goals ≤ reader.old.place }
+    requires order { IsInOrder desk.old }
+    requires few { desk.old.session.goals ≤ reader.old.place }
     requires small { reader.old.place + length reader.old.bytes < 2 ^ 63 }
     ensures told { (options : Asked) (left rest written : Option (List ℕ))
         → Underway options left rest written (K.written sink.old) reader.old desk.old
         → Stops options left rest written (K.written sink.new) reader.new desk.new result }
-    ensures few { desk.new.goals ≤ reader.new.place }
+    ensures order { IsInOrder desk.new }
+    ensures few { desk.new.session.goals ≤ reader.new.place }
     ensures end { reader.new.place + length reader.new.bytes
         ≡ reader.old.place + length reader.old.bytes }
     ensures finished { reader.new.finished ≡ reader.old.finished }
@@ -117,7 +120,8 @@ fn answer_pieces<S: Source, K: Sink>(
     sink: &mut K,
 ) -> Result<Stop, Failed>
     requires some { 0 < length piece.old }
-    requires few { desk.old.goals ≤ reader.old.place }
+    requires order { IsInOrder desk.old }
+    requires few { desk.old.session.goals ≤ reader.old.place }
     requires begins { reader.old
         ≡ record { place = 0; bytes = []; finished = false; fault = None } }
     ensures told { (options : Asked) (left written : Option (List ℕ))
@@ -125,7 +129,8 @@ fn answer_pieces<S: Source, K: Sink>(
         desk.old
         → Stops options left (S.left source.new) written (K.written sink.new) reader.new desk.new
         result }
-    ensures few { desk.new.goals ≤ reader.new.place }
+    ensures order { IsInOrder desk.new }
+    ensures few { desk.new.session.goals ≤ reader.new.place }
     ensures small { reader.new.place + length reader.new.bytes < 2 ^ 63 }
     ensures ended { result ≡ Ok Stop.Hungry → reader.new.finished ≡ true }
     ensures cause { HasCause (K.faults sink.old) (K.faults sink.new) result }
@@ -149,6 +154,27 @@ fn answer_pieces<S: Source, K: Sink>(
     answer_whole(reader, desk, sink)
 }
 
+// Answers the whole input at the desk, or what comes before it is given up, and tells how it ended.
+fn answer_all<S: Source, K: Sink>(
+    alloc: Global,
+    desk: &mut Desk,
+    source: &mut S,
+    sink: &mut K,
+) -> Result<Status, Failed>
+    requires { IsNew desk.old.options desk.old }
+    ensures told { Came desk.old.options (S.left source.old) (S.left source.new)
+        (K.written sink.old) (K.written sink.new) result }
+    ensures cause { HasCause (K.faults sink.old) (K.faults sink.new) result }
+    ensures reads { EndsByCount result (S.faults source.old) (S.faults source.new) }
+{
+    let Ok(mut piece) = Vec::from_elem(alloc, 0u8, PIECE) else {
+        return Ok(Status::Memory);
+    };
+    let mut reader = Reader::new(alloc);
+    let stop = answer_pieces(&mut piece, source, &mut reader, desk, sink)?;
+    Ok(status_at(stop, desk.all_proved))
+}
+
 /// Answers the whole input by the options, or what comes before it is given up, and tells how it
 /// ended.
 pub fn answer_input<S: Source, K: Sink>(
@@ -165,12 +191,10 @@ pub fn answer_input<S: Source, K: Sink>(
     let Ok(mut desk) = Desk::new(alloc, options) else {
         return Ok(Status::Memory);
     };
-    let Ok(mut piece) = Vec::from_elem(alloc, 0u8, PIECE) else {
-        return Ok(Status::Memory);
-    };
-    let mut reader = Reader::new(alloc);
-    let stop = answer_pieces(&mut piece, source, &mut reader, &mut desk, sink)?;
-    Ok(status_at(stop, desk.all_proved))
+    let answered = answer_all(alloc, &mut desk, source, sink);
+    // A call, since the proof would take the search apart at the end of the scope.
+    drop(desk);
+    answered
 }
 
 // How a run ended that stopped so: at the end of the input it is told whether each report says that

@@ -2,7 +2,6 @@
 //! a sink.
 #![tactic(auto)]
 
-mod deciding;
 mod desk;
 mod input;
 mod laws;

@@ -61,14 +61,14 @@ pub fn run<S: Source, K: Sink>(
         (K.written sink.old) (K.written sink.new)
         (S.faults source.old) (S.faults source.new) result }
 
-    // A goal is said to be valid only where its negation is refuted.
+    // A goal is said to be valid only where its negation is refuted with what is assumed.
     ensures sound { (ran : Ran (map string_bytes words.now) (S.left source.old)
         (S.left source.new) (K.written sink.old) (K.written sink.new)
         (S.faults source.old) (S.faults source.new) result)
         → AllZip IsSoundAt ran.progress.expressions ran.progress.told }
 
-    // A goal without arithmetic is said to be valid just where its negation is refuted, unless
-    // memory or splits are wanting.
+    // Where it and what is assumed have no arithmetic, it is said to be valid just where that is
+    // refuted, unless memory or splits are wanting.
     ensures sharp { (ran : Ran (map string_bytes words.now) (S.left source.old)
         (S.left source.new) (K.written sink.old) (K.written sink.new)
         (S.faults source.old) (S.faults source.new) result)

@@ -1,48 +1,23 @@
-use Rattle.std.proofs.Common.{Ok, ap, subst, sym}
-use Rattle.esc_io.specs.declared.faults.Failed.{Failed}
-use Rattle.esc_top.specs.Underway.{EndsByCount, Reached}
-use Rattle.esc_top.specs.declared.status.Status.{Status}
-use Rattle.esc_top.proofs.UnderwayLemmas.{came_broken, count_at, reached_at, reached_at_once}
-use Rattle.esc_top.proofs.UnderwayLemmas.{underway_start}
+use Rattle.std.proofs.Common.{subst, sym}
+use Rattle.esc_options.specs.declared.options.Options.{Options}
+use Rattle.esc_top.specs.DeskInside.{IsNew}
+use Rattle.esc_top.specs.Underway.{Came}
+use Rattle.esc_top.proofs.UnderwayLemmas.{reached_at_once}
 use Rattle.esc_top.proofs.input.answer_input.Goals as goal
 
 pub returns-in_default-clause-told : goal.returns-in_default-clause-told
-returns-in_default-clause-told g c = reached_at_once c.args.options (g.S.Source.left c.args.source.now)
+returns-in_default-clause-told g c =
+    reached_at_once c.args.options (g.S.Source.left c.args.source.now)
     (g.K.Sink.written c.args.sink.now)
 
-pub returns-in_default-from_elem-clause-told : goal.returns-in_default-from_elem-clause-told
-returns-in_default-from_elem-clause-told g c = reached_at_once c.args.options (g.S.Source.left c.args.source.now)
-    (g.K.Sink.written c.args.sink.now)
-
-pub returns-in_err-stop-clause-told : goal.returns-in_err-stop-clause-told
-returns-in_err-stop-clause-told g c =
-    came_broken c.from_residual.result c.from_residual.ensures.0
-    (c.in_err-stop.ensures.told c.args.options (g.S.Source.left c.args.source.now)
-    (g.K.Sink.written c.args.sink.now)
-    (underway_start c.args.options (g.S.Source.left c.args.source.now)
-    (g.K.Sink.written c.args.sink.now)
-    c.new-reader.result c.in-Ok.desk c.new-reader.ensures c.in-Ok.ensures.options
-    c.in-Ok.ensures.names c.in-Ok.ensures.goals c.in-Ok.ensures.clean))
+pub answer_all-answered-requires : goal.answer_all-answered-requires
+answer_all-answered-requires g c =
+    subst (λ (options : Options). IsNew options c.in-Ok.desk) (sym c.in-Ok.ensures.options_are)
+    c.in-Ok.ensures
 
 pub returns-clause-told : goal.returns-clause-told
 returns-clause-told g c =
-    let left = g.S.Source.left c.args.source.now in
-    let written = g.K.Sink.written c.args.sink.now in
-    let options = c.args.options in
-    let stops = c.in_ok-stop.ensures.told options left written
-    (underway_start options left written c.new-reader.result c.in-Ok.desk c.new-reader.ensures
-    c.in-Ok.ensures.options c.in-Ok.ensures.names c.in-Ok.ensures.goals c.in-Ok.ensures.clean) in
-    subst (λ (status : Status). Reached options left
-    (g.S.Source.left c.answer_pieces.new.source) written
-    (g.K.Sink.written c.answer_pieces.new.sink) status) (sym c.status_at.ensures)
-    (reached_at Failed c.answer_pieces.new.reader c.answer_pieces.new.desk c.in_ok-stop.stop
-    (λ hungry. c.in_ok-stop.ensures.ended (ap Ok hungry)) stops)
-
-pub returns-clause-reads : goal.returns-clause-reads
-returns-clause-reads g c =
-    let before = g.S.Source.faults c.args.source.now in
-    let now = g.S.Source.faults c.answer_pieces.new.source in
-    subst (λ (status : Status). EndsByCount {E = Failed} (Ok status) before now)
-    (sym c.status_at.ensures)
-    (count_at Failed Failed c.in_ok-stop.stop c.answer_pieces.new.desk.all_proved before now
-    c.in_ok-stop.ensures.reads)
+    subst (λ (options : Options). Came options (g.S.Source.left c.args.source.now)
+    (g.S.Source.left c.answer_all-answered.new.source) (g.K.Sink.written c.args.sink.now)
+    (g.K.Sink.written c.answer_all-answered.new.sink) c.answer_all-answered.result)
+    c.in-Ok.ensures.options_are c.answer_all-answered.ensures.told

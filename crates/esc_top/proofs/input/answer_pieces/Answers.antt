@@ -52,6 +52,7 @@ pieces-preserved g c =
           c.answer_whole.new.desk fed.0
           (underway_flushed now.0 c.in_ok-flush.ensures.bytes) fed.1 open_end fed.5
           (omega (arith, fed.2, fed.4, c.answer_whole.ensures.end, c.pieces.invariant.room));
+      order = c.answer_whole.ensures.order;
       few = omega (arith, place, c.answer_whole.ensures.few);
       open_end = ap (λ (u : Unread). u.finished) fed.5 ∙ open_end;
       room = omega (

@@ -1,5 +1,6 @@
 use Rattle.std.proofs.Common.{◌≡◌, ◌+◌, ◌≤◌, ◌^◌, ℕ, List, Option, false, length}
 use Rattle.esc_options.specs.declared.options.Options.{Options}
+use Rattle.esc_top.specs.DeskInside.{IsInOrder}
 use Rattle.esc_top.specs.Underway.{Underway}
 use Rattle.esc_top.proofs.input.answer_pieces.Given as goal
 
@@ -12,7 +13,8 @@ invariant-pieces g l =
           → Underway options left (source l.fn.source) before (written l.fn.sink) l.fn.reader
           l.fn.desk
           → Underway options left (source l.source) before (written l.sink) l.reader l.desk;
-      few : l.desk.goals ≤ l.reader.place;
+      order : IsInOrder l.desk;
+      few : l.desk.session.goals ≤ l.reader.place;
       open_end : l.reader.finished ≡ false;
       room : l.reader.place + length l.reader.bytes + l.room ≡ 2 ^ 32;
       reads : g.S.Source.faults l.source ≡ g.S.Source.faults l.fn.source;

@@ -68,6 +68,7 @@ expressions-preserved-in_ok-tell-in-Ok-Some g c =
           c.in-Ok-Some.sexp
           (c.expressions.invariant.told options left rest written h) gives
           c.in_ok-tell-in-Ok-Some.ensures.answers;
+      order = c.in_ok-tell-in-Ok-Some.ensures.order;
       few = omega (
         arith,
         gives.shorter,
@@ -92,6 +93,7 @@ expressions-preserved-in_ok-tell-in-Ok-Some-2 g c =
           c.in-Ok-Some.sexp
           (c.expressions.invariant.told options left rest written h) gives
           c.in_ok-tell-in-Ok-Some.ensures.answers;
+      order = c.in_ok-tell-in-Ok-Some.ensures.order;
       few = omega (
         arith,
         gives.shorter,
@@ -115,6 +117,7 @@ expressions-preserved g c =
           c.in-Ok-Some.sexp
           (c.expressions.invariant.told options left rest written h) gives
           c.in_ok-tell-in-Ok-Some.ensures.answers;
+      order = c.in_ok-tell-in-Ok-Some.ensures.order;
       few = omega (
         arith,
         gives.shorter,

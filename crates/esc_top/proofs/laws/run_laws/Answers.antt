@@ -6,9 +6,10 @@ pub returns : goal.returns
 returns c =
     let reading = c.reading_laws-2.ensures in
     let names = c.reading_laws.ensures in
+    let answers = c.answer_laws.ensures in
     record {
       status = status_is_due reading.found_stays reading.fault_stays reading.expression
           reading.either reading.reading;
-      sound = runs_are_sound c.answer_laws.ensures.sound names.stay names.numbered;
-      sharp = runs_are_sharp c.answer_laws.ensures.sharp names.stay names.numbered;
+      sound = runs_are_sound answers.sound answers.supported names.stay names.numbered;
+      sharp = runs_are_sharp answers.sharp answers.supported names.stay names.numbered;
     }
