@@ -1,4 +1,5 @@
 mod Again
+mod Dropping
 mod GoingBack
 mod NewStanding
 mod Newest
