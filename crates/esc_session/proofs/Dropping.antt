@@ -48,7 +48,7 @@ leaves_then s t u h k = record {
 -- ---- one more goes
 
 some_there : (predicate : Option (Sym × ℕ)) → true ≡ is_some predicate → IsSome predicate
-some_there (Some p) h = tt
+some_there (Some p) h = refl
 some_there None h = absurd cc
 
 none_there : (predicate : Option (Sym × ℕ)) → false ≡ is_some predicate → predicate ≡ None

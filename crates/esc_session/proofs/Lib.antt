@@ -1,4 +1,5 @@
 mod Again
+mod Answering
 mod Dropping
 mod GoingBack
 mod NewStanding

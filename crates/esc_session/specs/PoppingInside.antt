@@ -2,9 +2,13 @@
 use Rattle.std.specs.Prelude.{◌≡◌, ◌≤◌, ℕ, Bool, List, [], ◌∷◌, ◌++◌, length, reverse, take}
 use Rattle.std.specs.Option.{IsSome, is_some}
 use Rattle.std.specs.List.{All}
+use Rattle.esc_answers.specs.State.{AreRules}
 use Rattle.esc_search.specs.Levels.{CanReturn, GoesBackTo, IsBegunAt}
 use Rattle.esc_search.specs.declared.search.Search.{Search}
 use Rattle.esc_session.specs.Back.{LeadsBack}
+use Rattle.esc_session.specs.Between.{IsBetween}
+use Rattle.esc_session.specs.SessionInside.{LeavesRest}
+use Rattle.esc_session.specs.View.{state_of}
 use Rattle.esc_session.specs.declared.batch.Batch.{Batch}
 use Rattle.esc_session.specs.declared.batch.Standing.{Standing}
 use Rattle.esc_session.specs.declared.batch.Standing.TheVariants.{Asserted, Closed}
@@ -41,3 +45,10 @@ pub record DropsRules (s t : Session) : Type 0 where
   pub base : t.base ≡ record s.base { background = take kept s.base.background }
   pub search : (older : List Batch) (u : Search) → LeadsBack s.search (reverse rules ++ older) u
       → LeadsBack t.search older u
+
+-- rules went, and a push is still there
+pub record IsPopping (s t : Session) : Type 0 where
+  pub went : DropsRules s t
+  pub between : IsBetween t
+  pub leaves : LeavesRest s t
+  pub push : AreRules (state_of t).batches → ⊥

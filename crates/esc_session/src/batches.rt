@@ -1,9 +1,10 @@
 //! What is looked up in the batches, and what of them is cut.
 
-ghost use Rattle.std.specs.Prelude.{◌≡◌, ◌≢◌, ◌↔◌, IsTrue, [], ◌∷◌, ◌++◌, take};
-ghost use Rattle.esc_answers.specs.State.{AreRules, IsDefined};
+ghost use Rattle.std.specs.Prelude.{◌≡◌, ◌≢◌, [], ◌∷◌, ◌++◌, take};
+ghost use Rattle.std.specs.List.{list_any};
+ghost use Rattle.std.specs.Option.{is_none};
+ghost use Rattle.esc_session.specs.SessionInside.{is_for};
 ghost use Rattle.esc_session.specs.View.{has_closed, is_asserted, is_closed, is_open, newest_first};
-ghost use Rattle.esc_session.specs.View.{state_of};
 
 use crate::batch::{Batch, Standing};
 use crate::session::Session;
@@ -20,6 +21,17 @@ impl Standing {
         ensures { result ≡ is_closed self.now }
     {
         matches!(self, Standing::Closed(_))
+    }
+}
+
+impl Batch {
+    fn is_for(&self, name: Sym, count: u64) -> bool
+        ensures { result ≡ is_for name count self.now.predicate }
+    {
+        match self.predicate {
+            Some((of, len)) => of.0 == name.0 && len == count,
+            None => false,
+        }
     }
 }
 
@@ -58,7 +70,7 @@ impl Session {
 
     /// Whether a push is in force.
     pub(crate) fn has_push(&self) -> bool
-        ensures { IsTrue result ↔ (AreRules (state_of self.now).batches → ⊥) }
+        ensures { result ≡ list_any (λ b. is_none b.predicate) self.now.batches }
     {
         'batches: for batch in self.batches.as_slice() {
             if batch.predicate.is_none() {
@@ -70,10 +82,10 @@ impl Session {
 
     /// Whether a rule for this name and number of arguments is in force.
     pub(crate) fn is_defined(&self, name: Sym, count: u64) -> bool
-        ensures { IsTrue result ↔ IsDefined (state_of self.now) (name, count) }
+        ensures { result ≡ list_any (λ b. is_for name count b.predicate) self.now.batches }
     {
         'batches: for batch in self.batches.as_slice() {
-            if batch.predicate == Some((name, count)) {
+            if batch.is_for(name, count) {
                 return true;
             }
         }

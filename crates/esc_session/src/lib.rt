@@ -4,6 +4,7 @@
 mod batch;
 mod batches;
 mod command;
+mod defining;
 mod goal;
 mod laws;
 mod popping;
