@@ -56,7 +56,7 @@ none_there (Some p) h = absurd cc
 none_there None h = refl
 
 -- the first of the first ones
-take_front : (n kept : ℕ) (fs : List Formula) → n ≤ length (take kept fs)
+pub take_front : (n kept : ℕ) (fs : List Formula) → n ≤ length (take kept fs)
     → take n (take kept fs) ≡ take n fs
 take_front n kept fs within =
     sym (take-append-le n (take kept fs) (drop kept fs) within)

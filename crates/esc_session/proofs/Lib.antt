@@ -1,9 +1,14 @@
 mod Again
 mod Answering
+mod Asked
+mod Beginning
 mod Dropping
+mod Goals
 mod GoingBack
 mod NewStanding
 mod Newest
 mod NewestEnds
 mod Pushed
+mod Reports
 mod RestAsserted
+mod Told

@@ -5,5 +5,6 @@ pub mod Counted
 pub mod Laws
 pub mod PoppingInside
 pub mod PushingInside
+pub mod ReportingInside
 pub mod SessionInside
 pub mod View

@@ -9,6 +9,7 @@ mod goal;
 mod laws;
 mod popping;
 mod pushing;
+mod reporting;
 mod session;
 
 pub use batch::{Batch, Batches, Standing};
