@@ -6,4 +6,5 @@ mod NewStanding
 mod Newest
 mod NewestEnds
 mod Pushed
+mod Replying
 mod RestAsserted

@@ -55,10 +55,12 @@ impl Session {
         ensures leaves { LeavesRest self.old self.new }
     {
         if !is_supported(&rule) {
+            drop(rule);
             let why = Refusal::Unsupported;
             return Report::Refused { place, why };
         }
         if self.is_defined(name, count) {
+            drop(rule);
             let why = Refusal::Redefined;
             return Report::Refused {
                 place: name_place,
