@@ -4,13 +4,14 @@ use Rattle.std.proofs.Common.{Some, None, refl, ap, subst, arith}
 use Rattle.std.specs.List.{list_all}
 use Rattle.esc_term.specs.declared.formula.Formula.{Formula}
 use Rattle.esc_term.specs.declared.term.Sym.{Sym}
+use Rattle.esc_form.specs.declared.command.Kind.TheVariants as kind
 use Rattle.esc_options.specs.declared.options.Limits.{Limits}
 use Rattle.esc_report.specs.declared.report.Refusal.TheVariants.{Redefined, Unsupported}
 use Rattle.esc_report.specs.declared.report.Report.{Report}
 use Rattle.esc_report.specs.declared.report.Report.TheVariants as report
 use Rattle.esc_answers.specs.Answers.{Assumes, GoalWhere, PushWhere, RuleWhere}
 use Rattle.esc_answers.specs.State.{IsDefined, State}
-use Rattle.esc_session.specs.Acts.{Joins, Rests}
+use Rattle.esc_session.specs.Acts.{Acts, Joins, Rests}
 use Rattle.esc_session.specs.SessionInside.{LeavesRest}
 use Rattle.esc_session.specs.View.{state_of}
 use Rattle.esc_session.specs.declared.session.Session.{Session}
@@ -68,3 +69,11 @@ pub goals_counted : (x : Bool) (limits : Limits) (s : State) (place : ℕ) (f : 
     (t : State) → GoalWhere x limits s place f r t → t.goals ≤ s.goals + 1
 goals_counted true limits s place f r t h = omega (arith, ap (λ (u : State). u.goals) h.1)
 goals_counted false limits s place f r t h = omega (arith, ap (λ (u : State). u.goals) h.1)
+
+pub goal_rests : (f : Formula) (r : Report) (s t : Session) → Rests s t → Acts (kind.Goal f) r s t
+goal_rests f (report.Valid goal log formulas) s t h = h
+goal_rests f (report.Invalid goal found) s t h = h
+goal_rests f (report.Unknown goal cause) s t h = h
+goal_rests f (report.Memory goal place) s t h = h
+goal_rests f (report.Refused place why) s t h = h
+goal_rests f report.Done s t h = h
