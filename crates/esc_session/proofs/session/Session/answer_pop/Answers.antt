@@ -14,5 +14,8 @@ pop-requires-clause-push c =
 
 pub returns-clause-answers : goal.returns-clause-answers
 returns-clause-answers c =
-    inl (refl, state_drops c.args.self.now c.pop.new.self c.pop.ensures.drops
-    c.pop.ensures.leaves.goals)
+    inl (
+      refl,
+      state_drops c.args.self.now c.pop.new.self c.pop.ensures.drops
+          c.pop.ensures.leaves.goals,
+    )
