@@ -1,6 +1,6 @@
 //! Predicates are defined.
 
-ghost use Rattle.std.specs.Prelude.{◌≡◌, IsTrue, OnErr, OnOk, Some, [], ◌∷◌};
+ghost use Rattle.std.specs.Prelude.{IsTrue, OnErr, OnOk, Some, [], ◌∷◌};
 ghost use Rattle.esc_answers.specs.Answers.{AnswersKind};
 ghost use Rattle.esc_form.specs.declared.command.Kind.TheVariants as kind;
 ghost use Rattle.esc_report.specs.Text.{HasEachFormula};

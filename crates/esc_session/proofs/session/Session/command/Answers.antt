@@ -1,4 +1,4 @@
-use Rattle.std.proofs.Common.{◌≡◌, ◌≤◌, ◌+◌, Option, Some, None, refl, ap, sym, subst, ◌∙◌, arith}
+use Rattle.std.proofs.Common.{Option, refl, ap, sym, subst, ◌∙◌, arith}
 use Rattle.esc_term.specs.declared.formula.Formula.{Formula}
 use Rattle.esc_form.specs.Laws.{IsClosedKind}
 use Rattle.esc_form.specs.declared.command.Kind.{Kind}
@@ -30,74 +30,92 @@ define-requires-clause-closed c =
 pub returns-in-Goal-clause-answers : goal.returns-in-Goal-clause-answers
 returns-in-Goal-clause-answers c =
     let s = c.args.self.now in
-    subst (λ (k : Kind). AnswersKind s.limits (state_of s) c.args.command.place k c.answer_goal.result
-    (state_of c.answer_goal.new.self)) (sym c.in-Goal.is) c.answer_goal.ensures.answers
+    subst (λ (k : Kind). AnswersKind s.limits (state_of s) c.args.command.place k
+    c.answer_goal.result (state_of c.answer_goal.new.self))
+    (sym c.in-Goal.is)
+    c.answer_goal.ensures.answers
 
 pub returns-in-Push-clause-answers : goal.returns-in-Push-clause-answers
 returns-in-Push-clause-answers c =
     let s = c.args.self.now in
-    subst (λ (k : Kind). AnswersKind s.limits (state_of s) c.args.command.place k c.answer_push.result
-    (state_of c.answer_push.new.self)) (sym c.in-Push.is) c.answer_push.ensures.answers
+    subst (λ (k : Kind). AnswersKind s.limits (state_of s) c.args.command.place k
+    c.answer_push.result (state_of c.answer_push.new.self))
+    (sym c.in-Push.is)
+    c.answer_push.ensures.answers
 
 pub returns-in-Pop-clause-answers : goal.returns-in-Pop-clause-answers
 returns-in-Pop-clause-answers c =
     let s = c.args.self.now in
-    subst (λ (k : Kind). AnswersKind s.limits (state_of s) c.args.command.place k c.answer_pop.result
-    (state_of c.answer_pop.new.self)) (sym c.in-Pop.is) c.answer_pop.ensures.answers
+    subst (λ (k : Kind). AnswersKind s.limits (state_of s) c.args.command.place k
+    c.answer_pop.result (state_of c.answer_pop.new.self))
+    (sym c.in-Pop.is)
+    c.answer_pop.ensures.answers
 
 pub returns-in-Some-clause-answers : goal.returns-in-Some-clause-answers
 returns-in-Some-clause-answers c =
     let d = c.in-Define in
     let s = c.args.self.now in
-    subst (λ (k : Kind). AnswersKind s.limits (state_of s) c.args.command.place k c.define.result
-    (state_of c.define.new.self)) (sym (d.is ∙ ap (kind.Define d.name d.count d.name_place) c.in-Some.is)) c.define.ensures.answers
+    subst (λ (k : Kind). AnswersKind s.limits (state_of s) c.args.command.place k
+    c.define.result (state_of c.define.new.self))
+    (sym (d.is ∙ ap (kind.Define d.name d.count d.name_place) c.in-Some.is))
+    c.define.ensures.answers
 
 pub returns-in-None-clause-answers : goal.returns-in-None-clause-answers
 returns-in-None-clause-answers c =
     let d = c.in-Define in
     let s = c.args.self.now in
-    subst (λ (k : Kind). AnswersKind s.limits (state_of s) c.args.command.place k report.Done
-    (state_of s)) (sym (d.is ∙ ap (kind.Define d.name d.count d.name_place) c.in-None.is)) (refl, refl)
+    subst (λ (k : Kind). AnswersKind s.limits (state_of s) c.args.command.place k
+    report.Done (state_of s))
+    (sym (d.is ∙ ap (kind.Define d.name d.count d.name_place) c.in-None.is))
+    (refl, refl)
 
 pub returns-in-Prompt-clause-answers : goal.returns-in-Prompt-clause-answers
 returns-in-Prompt-clause-answers c =
     let s = c.args.self.now in
-    subst (λ (k : Kind). AnswersKind s.limits (state_of s) c.args.command.place k report.Done
-    (state_of s)) (sym c.in-Prompt.is) (refl, refl)
+    subst (λ (k : Kind). AnswersKind s.limits (state_of s) c.args.command.place k
+    report.Done (state_of s))
+    (sym c.in-Prompt.is)
+    (refl, refl)
 
 -- ---- what is done
 
 pub returns-in-Goal-clause-acts : goal.returns-in-Goal-clause-acts
 returns-in-Goal-clause-acts c =
-    subst (λ (k : Kind). Acts k c.answer_goal.result c.args.self.now c.answer_goal.new.self) (sym c.in-Goal.is)
+    subst (λ (k : Kind). Acts k c.answer_goal.result c.args.self.now c.answer_goal.new.self)
+    (sym c.in-Goal.is)
     (goal_rests c.in-Goal.formula c.answer_goal.result c.args.self.now c.answer_goal.new.self
     c.answer_goal.ensures.rests)
 
 pub returns-in-Push-clause-acts : goal.returns-in-Push-clause-acts
 returns-in-Push-clause-acts c =
-    subst (λ (k : Kind). Acts k c.answer_push.result c.args.self.now c.answer_push.new.self) (sym c.in-Push.is)
+    subst (λ (k : Kind). Acts k c.answer_push.result c.args.self.now c.answer_push.new.self)
+    (sym c.in-Push.is)
     c.answer_push.ensures.acts
 
 pub returns-in-Pop-clause-acts : goal.returns-in-Pop-clause-acts
 returns-in-Pop-clause-acts c =
-    subst (λ (k : Kind). Acts k c.answer_pop.result c.args.self.now c.answer_pop.new.self) (sym c.in-Pop.is)
+    subst (λ (k : Kind). Acts k c.answer_pop.result c.args.self.now c.answer_pop.new.self)
+    (sym c.in-Pop.is)
     c.answer_pop.ensures.acts
 
 pub returns-in-Some-clause-acts : goal.returns-in-Some-clause-acts
 returns-in-Some-clause-acts c =
     let d = c.in-Define in
-    subst (λ (k : Kind). Acts k c.define.result c.args.self.now c.define.new.self) (sym (d.is ∙ ap (kind.Define d.name d.count d.name_place) c.in-Some.is))
+    subst (λ (k : Kind). Acts k c.define.result c.args.self.now c.define.new.self)
+    (sym (d.is ∙ ap (kind.Define d.name d.count d.name_place) c.in-Some.is))
     c.define.ensures.acts
 
 pub returns-in-None-clause-acts : goal.returns-in-None-clause-acts
 returns-in-None-clause-acts c =
     let d = c.in-Define in
-    subst (λ (k : Kind). Acts k report.Done c.args.self.now c.args.self.now) (sym (d.is ∙ ap (kind.Define d.name d.count d.name_place) c.in-None.is))
+    subst (λ (k : Kind). Acts k report.Done c.args.self.now c.args.self.now)
+    (sym (d.is ∙ ap (kind.Define d.name d.count d.name_place) c.in-None.is))
     (rests_here c.args.self.now)
 
 pub returns-in-Prompt-clause-acts : goal.returns-in-Prompt-clause-acts
 returns-in-Prompt-clause-acts c =
-    subst (λ (k : Kind). Acts k report.Done c.args.self.now c.args.self.now) (sym c.in-Prompt.is)
+    subst (λ (k : Kind). Acts k report.Done c.args.self.now c.args.self.now)
+    (sym c.in-Prompt.is)
     (rests_here c.args.self.now)
 
 -- ---- goals are counted
