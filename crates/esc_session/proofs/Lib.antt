@@ -9,6 +9,7 @@ mod NewStanding
 mod Newest
 mod NewestEnds
 mod Pushed
+mod Replying
 mod Reports
 mod RestAsserted
 mod Told

@@ -1,6 +1,6 @@
 //! Predicates are defined.
 
-ghost use Rattle.std.specs.Prelude.{◌≡◌, IsTrue, OnErr, OnOk, Some, [], ◌∷◌};
+ghost use Rattle.std.specs.Prelude.{IsTrue, OnErr, OnOk, Some, [], ◌∷◌};
 ghost use Rattle.esc_answers.specs.Answers.{AnswersKind};
 ghost use Rattle.esc_form.specs.declared.command.Kind.TheVariants as kind;
 ghost use Rattle.esc_report.specs.Text.{HasEachFormula};
@@ -55,10 +55,12 @@ impl Session {
         ensures leaves { LeavesRest self.old self.new }
     {
         if !is_supported(&rule) {
+            drop(rule);
             let why = Refusal::Unsupported;
             return Report::Refused { place, why };
         }
         if self.is_defined(name, count) {
+            drop(rule);
             let why = Refusal::Redefined;
             return Report::Refused {
                 place: name_place,
