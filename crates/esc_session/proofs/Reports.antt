@@ -91,19 +91,19 @@ unknown_answers base s number cause h place = (refl, h.cause_is)
 -- ---- goals where what is assumed is refuted
 
 module _ (base : Base) (law : RefutedAmongMore) (legal : FirstIsLegal) (valid : RefutedIsValid)
-    where
-  in_base : All (Contains (formulas_in base)) base.background
-  in_base = All-append_left (Contains (formulas_in base)) base.background
-      (cons_option base.negated [])
-      (All-contains_itself (formulas_in base))
+  where
+    in_base : All (Contains (formulas_in base)) base.background
+    in_base = All-append_left (Contains (formulas_in base)) base.background
+        (cons_option base.negated [])
+        (All-contains_itself (formulas_in base))
 
-  first_refuted : Refuted base.background → Refuted (formulas_of base (first_facts base))
-  first_refuted refuted = subst Refuted (sym (formulas_first base))
-      (law base.background (formulas_in base) in_base refuted)
+    first_refuted : Refuted base.background → Refuted (formulas_of base (first_facts base))
+    first_refuted refuted = subst Refuted (sym (formulas_first base))
+        (law base.background (formulas_in base) in_base refuted)
 
-  pub assumed_valid : (log : List Fact) (formulas : List Formula) → log ≡ first_facts base
-      → formulas ≡ formulas_in base → Refuted base.background → IsValid base log formulas
-  assumed_valid log formulas log_is formulas_are refuted =
-      subst₂ (λ facts fs. IsValid base facts fs) (sym log_is)
-      (formulas_first base ∙ sym formulas_are)
-      (valid base (first_facts base) (legal base) (first_refuted refuted))
+    pub assumed_valid : (log : List Fact) (formulas : List Formula) → log ≡ first_facts base
+        → formulas ≡ formulas_in base → Refuted base.background → IsValid base log formulas
+    assumed_valid log formulas log_is formulas_are refuted =
+        subst₂ (λ facts fs. IsValid base facts fs) (sym log_is)
+        (formulas_first base ∙ sym formulas_are)
+        (valid base (first_facts base) (legal base) (first_refuted refuted))

@@ -128,12 +128,7 @@ fn open_report(
 }
 
 /// Searches for a refutation of the base, and reports on its goal.
-fn proved(
-    alloc: Global,
-    search: &mut Search,
-    base: &Base,
-    goal: u64,
-) -> Result<Report, AllocError>
+fn proved(alloc: Global, search: &mut Search, base: &Base, goal: u64) -> Result<Report, AllocError>
     requires closed { IsClosedBase base.now }
     requires goal { IsSome base.now.negated }
     requires ready { IsReady base.now search.old }

@@ -11,6 +11,10 @@ background-preserved c =
     record {
       named = one_more_named facts c.push.new.self c.len-in-background-2.result
           c.len-in-background-2.ensures c.background.invariant.named added;
-      few = omega (arith, c.background-test.true, ap length added,
-          length_push facts (Given c.len-in-background-2.result));
+      few = omega (
+        arith,
+        c.background-test.true,
+        ap length added,
+        length_push facts (Given c.len-in-background-2.result),
+      );
     }
