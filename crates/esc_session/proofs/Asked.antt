@@ -1,19 +1,17 @@
 -- What stands between commands when a goal is asked.
-use Rattle.std.proofs.Common.{◌≡◌, ◌≤◌, Bool, true, false, ◌||◌, IsTrue, List, [], ◌∷◌, ◌++◌, length}
-use Rattle.std.proofs.Common.{reverse, take, refl, sym, ap, subst, ◌∙◌, arith}
-use Rattle.std.specs.Prelude.{min}
-use Rattle.std.specs.List.{All, Contains, list_any}
+use Rattle.std.proofs.Common.{◌≡◌, ◌≤◌, Bool, true, false, ◌||◌, List, [], ◌∷◌, length}
+use Rattle.std.proofs.Common.{reverse, take, refl, sym, ap, ◌∙◌, arith}
+use Rattle.std.specs.List.{Contains, list_any}
 use Rattle.std.proofs.lemmas.List.{length-take, reverse-append}
 use Rattle.std.proofs.lemmas.List.Elements.{All-contains_itself, All-take}
 use Rattle.std.proofs.lemmas.List.Folds.{list_any-append}
 use Rattle.esc_term.specs.declared.formula.Formula.{Formula}
 use Rattle.esc_term.specs.Laws.{RefutedAmongMore}
 use Rattle.esc_term.specs.Refuted.{Refuted}
-use Rattle.esc_fact.specs.declared.base.Base.{Base}
 use Rattle.esc_options.specs.declared.options.Limits.{Limits}
 use Rattle.esc_search.specs.Proving.{IsReady, ReadyIsAlike}
 use Rattle.esc_search.specs.declared.search.Search.{Search}
-use Rattle.esc_session.specs.Between.{HasAsserted, Stands, StandsBy, assuming}
+use Rattle.esc_session.specs.Between.{Stands, StandsBy, assuming}
 use Rattle.esc_session.specs.View.{has_closed, is_closed, is_open}
 use Rattle.esc_session.specs.declared.batch.Batch.{Batch}
 use Rattle.esc_session.specs.declared.batch.Standing.{Standing}

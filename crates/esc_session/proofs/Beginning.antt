@@ -1,5 +1,5 @@
 -- A session in which nothing is in force.
-use Rattle.std.proofs.Common.{◌≡◌, ◌≤◌, List, [], ◌++◌, Option, None, length, refl, reverse, sym}
+use Rattle.std.proofs.Common.{◌≡◌, List, [], ◌++◌, Option, None, refl, reverse, sym}
 use Rattle.std.proofs.Common.{subst₂, arith}
 use Rattle.std.specs.List.{All, cons_option}
 use Rattle.std.specs.Prelude.{IsTrue}

@@ -1,7 +1,7 @@
 -- A goal leaves all as it was.
-use Rattle.std.proofs.Common.{◌≡◌, Bool, true, false, IsTrue, List, [], ◌∷◌, ◌++◌, Option, Some, None}
+use Rattle.std.proofs.Common.{◌≡◌, true, false, IsTrue, List, [], ◌∷◌, Option, None}
 use Rattle.std.proofs.Common.{refl, reverse, sym, ap, subst, ◌∙◌}
-use Rattle.std.specs.List.{All, cons_option}
+use Rattle.std.specs.List.{cons_option}
 use Rattle.std.proofs.lemmas.List.Elements.{All-append, All-cons, All-nil}
 use Rattle.esc_term.specs.declared.formula.Formula.{Formula}
 use Rattle.esc_term.specs.declared.formula.Formula.TheVariants.{Not}
@@ -13,7 +13,6 @@ use Rattle.esc_fact.specs.Legal.{IsClosedBase}
 use Rattle.esc_fact.specs.declared.base.Base.{Base}
 use Rattle.esc_report.specs.Goals.{base_of}
 use Rattle.esc_search.specs.Proving.{IsReady, ReadyIsAlike}
-use Rattle.esc_search.specs.declared.search.Search.{Search}
 use Rattle.esc_sharing.proofs.Lists.{All-append_left}
 use Rattle.esc_session.specs.Acts.{Rests}
 use Rattle.esc_session.specs.Back.{IsAgain}

@@ -15,7 +15,7 @@ use Rattle.esc_search.specs.declared.search.Search.{Search}
 use Rattle.esc_session.specs.Back.{BeforeStanding, IsAgain, LeadsBack}
 use Rattle.esc_session.specs.Between.{IsBetween, Stands, StandsBy}
 use Rattle.esc_session.specs.PoppingInside.{CanEnd, DropsOne, WasBefore}
-use Rattle.esc_session.specs.View.{is_open, newest_first}
+use Rattle.esc_session.specs.View.{is_open}
 use Rattle.esc_session.specs.declared.batch.Batch.{Batch}
 use Rattle.esc_session.specs.declared.batch.Standing.{Standing}
 use Rattle.esc_session.specs.declared.batch.Standing.TheVariants.{Asserted, Behind, Closed}

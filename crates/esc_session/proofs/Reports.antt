@@ -15,7 +15,6 @@ use Rattle.esc_context.specs.Left.{IsLeft, Tells}
 use Rattle.esc_live.specs.View.{literals_on, logged}
 use Rattle.esc_live.specs.declared.branch.LiveBranch.{LiveBranch}
 use Rattle.esc_options.specs.declared.options.Limits.{Limits}
-use Rattle.esc_outcome.specs.Causes.{IsCause}
 use Rattle.esc_fact.specs.Depth.{IsWithinLimits}
 use Rattle.esc_outcome.specs.Found.{IsInvalid, IsValid}
 use Rattle.esc_outcome.specs.FoundLaws.{RefutedIsValid}
@@ -24,7 +23,6 @@ use Rattle.esc_outcome.proofs.PlainBases.{formulas_first}
 use Rattle.esc_sharing.proofs.Lists.{All-append_left}
 use Rattle.esc_outcome.specs.declared.branch.Cause.{Cause}
 use Rattle.esc_outcome.specs.declared.counterexample.Counterexample.{Counterexample}
-use Rattle.esc_report.specs.declared.report.Report.{Report}
 use Rattle.esc_report.specs.declared.report.Report.TheVariants as report
 use Rattle.esc_search.specs.Proving.{IsLeftOpen, IsRefutedLog, IsStopped, live_facts}
 use Rattle.esc_search.specs.declared.search.Search.{Search}

@@ -1,4 +1,4 @@
-use Rattle.std.proofs.Common.{◌∙◌, ap, arith, length, subst, sym}
+use Rattle.std.proofs.Common.{ap, arith, length}
 use Rattle.std.proofs.lemmas.List.{length_push}
 use Rattle.esc_fact.specs.declared.fact.Fact.TheVariants.{Given}
 use Rattle.esc_session.proofs.Told.{one_more_named}

@@ -1,6 +1,4 @@
-use Rattle.std.proofs.Common.{◌≡◌, ◌∙◌, None, Some, ap, refl, subst, sym}
-use Rattle.esc_term.specs.declared.formula.Formula.{Formula}
-use Rattle.esc_term.specs.declared.formula.Formula.TheVariants.{Not}
+use Rattle.std.proofs.Common.{◌≡◌, ◌∙◌, None, ap, refl, subst, sym}
 use Rattle.esc_term.specs.Refuted.{Refuted}
 use Rattle.esc_fact.specs.Legal.{IsClosedBase}
 use Rattle.esc_fact.specs.declared.base.Base.{Base}
