@@ -6,9 +6,11 @@ ghost use Rattle.std.specs.Option.{IsSome};
 ghost use Rattle.esc_egraph.specs.declared.state.State.TheVariants as state;
 ghost use Rattle.esc_fact.specs.Legal.{IsClosedBase, first_facts};
 ghost use Rattle.esc_fact.specs.declared.fact.Fact.TheVariants.{Given};
+ghost use Rattle.esc_refine.specs.Refining.{IsQuiet};
 ghost use Rattle.esc_search.specs.Proving.{GivenEnds, IsReady, LogsGiven};
 ghost use Rattle.esc_search.specs.SearchInside.{Begins, GoesLive, IsBegun, IsKept, IsLogged};
 ghost use Rattle.esc_search.specs.SearchInside.{IsLoggedNext};
+ghost use Rattle.esc_search.specs.declared.outcome.Outcome.TheVariants as outcome;
 
 use crate::outcome::Outcome;
 use crate::search::Search;
@@ -93,6 +95,7 @@ impl Search {
     fn refine_begun(&mut self, base: &Base) -> Result<State, Stop>
         requires begun { IsBegun base.now self.old }
         ensures goes { GoesLive base.now self.new result }
+        ensures quiet { result ≡ Ok state.Open → IsQuiet self.new.branch }
         ensures live { self.new.branch.book.live ≡ self.old.branch.book.live }
         ensures log { self.new.log ≡ self.old.log }
         ensures kept { IsKept base.now self.old [] self.new [] }
@@ -107,6 +110,7 @@ impl Search {
         requires place { place ≡ length self.old.branch.book.live }
         requires more { length self.old.branch.book.live < length self.old.log }
         ensures goes { GoesLive base.now self.new result }
+        ensures quiet { result ≡ Ok state.Open → IsQuiet self.new.branch }
         ensures live { result ≡ Ok state.Open → length self.new.branch.book.live
             ≡ length self.old.branch.book.live + 1 }
         ensures log { self.new.log ≡ self.old.log }
@@ -156,6 +160,7 @@ impl Search {
     fn assert_given_next(&mut self, base: &Base) -> Outcome
         requires logged { IsLoggedNext base.now self.old }
         ensures ends { GivenEnds base.now self.new result }
+        ensures quiet { result ≡ outcome.Open → IsQuiet self.new.branch }
         ensures log { self.new.log ≡ self.old.log }
         ensures kept { IsKept base.now self.old [] self.new [] }
     {
@@ -173,6 +178,7 @@ impl Search {
         requires ready { IsReady base.now self.old }
         requires more { length self.old.log < length base.now.background }
         ensures ends { GivenEnds base.now self.new result }
+        ensures quiet { result ≡ outcome.Open → IsQuiet self.new.branch }
         ensures log { LogsGiven self.old.log self.new.log result }
         ensures kept { IsKept base.now self.old [] self.new [] }
     {

@@ -7,9 +7,11 @@ ghost use Rattle.esc_fact.specs.Legal.{IsClosedBase};
 ghost use Rattle.esc_fact.specs.declared.base.Base.{Base as Bases};
 ghost use Rattle.esc_live.specs.Promises.{IsGiven};
 ghost use Rattle.esc_live.specs.View.{logged};
+ghost use Rattle.esc_refine.specs.Refining.{IsQuiet};
 ghost use Rattle.esc_search.specs.Levels.{KeepsLevels};
 ghost use Rattle.esc_search.specs.Proving.{ComesTo, GivenEnds, IsReady, LogsGiven, tallied};
 ghost use Rattle.esc_search.specs.SearchInside.{IsKept};
+ghost use Rattle.esc_search.specs.declared.outcome.Outcome.TheVariants as outcome;
 
 use crate::outcome::Outcome;
 use crate::tally::Tally;
@@ -66,12 +68,14 @@ impl Search {
         })
     }
 
-    /// Asserts the next formula of the background, behind those that are asserted, and refines.
+    /// Asserts the next formula of the background, behind those that are asserted, and refines until
+    /// nothing is left to do but to split.
     pub fn assert_given(&mut self, base: &Base) -> Outcome
         requires closed { IsClosedBase base.now }
         requires ready { IsReady base.now self.old }
         requires more { length self.old.log < length base.now.background }
         ensures ends { GivenEnds base.now self.new result }
+        ensures quiet { result ≡ outcome.Open → IsQuiet self.new.branch }
         ensures log { LogsGiven self.old.log self.new.log result }
         ensures given { IsGiven self.new.branch }
         ensures formulas { logged self.new.branch ≡ formulas_of base.now self.new.log }
