@@ -19,7 +19,7 @@ LeadsAbove front ((k, r) ∷ more) s u =
     (t : Session) × Acts k r s t × IsFront front t.batches × LeadsAbove front more t u
 
 -- Whatever was asked, assumed and popped since a push: once that push is popped, the search is again
--- as it was before it, and so is all that is in force.
+-- as it was before it.
 abbrev pub PopsGoBack : Type 0
 PopsGoBack = (before pushed now popped : Session) (fs : List Formula)
     (since : List (Kind × Report)) → Joins before pushed None fs
