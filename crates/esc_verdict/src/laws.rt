@@ -3,7 +3,7 @@
 ghost use Rattle.esc_verdict.specs.Laws.{InvalidIsNotRefuted, PlainIsNotRefuted};
 ghost use Rattle.esc_verdict.specs.Laws.{PlainRunsOutOfSplits};
 
-use esc_outcome::plain_laws;
+use esc_outcome::{found_laws, plain_laws};
 use esc_rounds::round_laws;
 
 /// A base to which there is a counterexample is not refuted, where no fact has arithmetic. From a
@@ -15,6 +15,7 @@ pub fn verdict_laws()
     ensures plain { PlainIsNotRefuted }
     ensures splits { PlainRunsOutOfSplits }
 {
+    found_laws();
     plain_laws();
     round_laws();
 }

@@ -1,0 +1,72 @@
+-- From a base without quantified formulas and maps with new values nothing is drawn.
+use Rattle.std.proofs.Common.{◌≡◌, ◌<◌, ◌^◌, ◌+◌, ℕ, List, [], ◌∷◌, ◌++◌, length, map, sym, ap, subst}
+use Rattle.std.proofs.Common.{◌∙◌, arith, length-append}
+use Rattle.esc_fact.specs.Base.{formulas_in}
+use Rattle.esc_fact.specs.Legal.{IsLegal, first_facts}
+use Rattle.esc_fact.specs.declared.base.Base.{Base}
+use Rattle.esc_fact.specs.declared.fact.Fact.{Fact}
+use Rattle.esc_options.specs.declared.options.Limits.{Limits}
+use Rattle.esc_outcome.specs.Found as outcome
+use Rattle.esc_outcome.specs.PlainLaws.{IsPlain, IsPlainAndFree, PlainHasFirstFacts}
+use Rattle.esc_outcome.specs.PlainLaws as plain
+use Rattle.esc_outcome.specs.TreeLaws.{occurrences_in}
+use Rattle.esc_outcome.specs.declared.branch.Cause.TheVariants as older
+use Rattle.esc_outcome.specs.declared.counterexample.Counterexample.{Counterexample}
+use Rattle.esc_rounds.specs.Facts.{fact_of}
+use Rattle.esc_rounds.specs.Laws.{RoundsAreLegal}
+use Rattle.esc_verdict.specs.Causes.{IsCause, IsOutOfFacts, IsOutOfRounds}
+use Rattle.esc_verdict.specs.Found.{IsInvalid}
+use Rattle.esc_verdict.specs.Laws.{PlainRunsOutOfSplits}
+use Rattle.esc_verdict.specs.declared.cause.Cause.{Cause}
+use Rattle.esc_verdict.specs.declared.cause.Cause.TheVariants as cause
+
+-- what is known of it without its rounds
+pub found_alone : (base : Base) (limits : Limits) (found : Counterexample)
+    → IsInvalid base limits found → outcome.IsInvalid base limits found
+found_alone base limits found is = record {
+  within = is.within;
+  counterexample = is.counterexample;
+  labels = is.labels;
+}
+
+-- ---- nothing is drawn
+
+no_more : (xs ys : List Fact) (y : Fact) → xs ++ (y ∷ ys) ≡ xs → ⊥
+no_more xs ys y e =
+    let longer = ap length e in
+    let long = length-append xs (y ∷ ys) in
+    omega (arith, longer, long)
+
+module _ (first : PlainHasFirstFacts) (base : Base) (is : IsPlain base) where
+  not_longer : (facts more : List Fact) (next : Fact) → IsLegal base facts
+      → IsLegal base (facts ++ (next ∷ more)) → ⊥
+  not_longer facts more next legal longer =
+      no_more facts more next
+      (first base (facts ++ (next ∷ more)) is longer ∙ sym (first base facts is legal))
+
+  pub no_rounds : (rounds : RoundsAreLegal) (limits : Limits) → (branch : _) → (made : _)
+      → IsOutOfRounds base limits branch made → ⊥
+  no_rounds rounds limits branch made out =
+      let r = out.next in
+      let legal = out.within.legal in
+      not_longer made.live out.rest made.next legal
+      (subst (λ list. IsLegal base (made.live ++ list)) (sym r.facts_are)
+      (rounds base made.live made.literals r.s r.live limits.depth r.drawn legal
+      r.stands.standing r.stands.ready r.round))
+
+  pub no_facts : (limits : Limits) → (branch : _) → (next : Fact)
+      → IsOutOfFacts base limits branch next → ⊥
+  no_facts limits branch next out = not_longer branch.log [] next out.legal out.next_legal
+
+pub runs_out_of_splits : PlainHasFirstFacts → plain.PlainRunsOutOfSplits → RoundsAreLegal
+    → PlainRunsOutOfSplits
+runs_out_of_splits first splits rounds base limits (cause.Overflow branch stuck) is h =
+    splits base limits (older.Overflow branch stuck) is h
+runs_out_of_splits first splits rounds base limits (cause.Pivots branch stuck) is h =
+    splits base limits (older.Pivots branch stuck) is h
+runs_out_of_splits first splits rounds base limits (cause.Splits branch next) is h =
+    splits base limits (older.Splits branch next) is h
+runs_out_of_splits first splits rounds base limits (cause.Rounds branch made) is h =
+    absurd (no_rounds first base is.plain rounds limits branch made h)
+runs_out_of_splits first splits rounds base limits (cause.Facts branch next) is h =
+    absurd (no_facts first base is.plain limits branch next h)
