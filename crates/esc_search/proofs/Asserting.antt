@@ -1,6 +1,6 @@
 -- The facts that name a formula of the base become live.
-use Rattle.std.proofs.Common.{◌≡◌, ◌⊎◌, ℕ, ◌<◌, ◌+◌, suc, true, List, [], ◌∷◌, ◌++◌, Option, Some}
-use Rattle.std.proofs.Common.{None, Result, Ok, Err, length, map, get_or, append-nil, refl, sym, ap}
+use Rattle.std.proofs.Common.{◌≡◌, ℕ, ◌<◌, ◌+◌, suc, true, List, [], ◌∷◌, ◌++◌, Some}
+use Rattle.std.proofs.Common.{None, Result, Ok, Err, length, get_or, append-nil, refl, sym, ap}
 use Rattle.std.proofs.Common.{ap₂, subst, ◌∙◌, inl, inr, arith}
 use Rattle.std.specs.Prelude.{IsSome, IsSomeAnd, slice_get}
 use Rattle.std.specs.List.{All, Contains, cons_option, filter_map, range_with_len}
@@ -35,8 +35,8 @@ use Rattle.esc_live.specs.View.{literals_on, live_on, logged}
 use Rattle.esc_live.specs.declared.branch.LiveBranch.{LiveBranch}
 use Rattle.esc_live.specs.declared.record.LiveRec.{LiveRec}
 use Rattle.esc_sharing.proofs.Lists.{All-append_left, All-append_right}
-use Rattle.esc_search.specs.Proving.{branch_of, decided_on, live_facts}
-use Rattle.esc_search.specs.SearchInside.{GoesLive, IsBegun, IsHalted, said_on}
+use Rattle.esc_search.specs.Proving.{decided_on, live_facts}
+use Rattle.esc_search.specs.SearchInside.{GoesLive, IsBegun, IsHalted}
 use Rattle.esc_search.specs.declared.search.Search.{Search}
 use Rattle.esc_search.proofs.FrontFacts.{begun_grown, range_push}
 use Rattle.esc_search.proofs.LiveFacts.{All-filter_map, filter_map-read, first_named}
@@ -172,7 +172,8 @@ module _ (base : Base) (s : Search) (begun : IsBegun base s)
             | inl e ↦ hold M (so M (subst (AllTrue (read_in M)) (live_more e) live))
             | inr same ↦
                 subst (All (HoldsIn M))
-                (sym (ap₂ (λ gs (os : List Occurrence). filter_map (item_at gs) os) same_log same.1))
+                (sym (ap₂ (λ gs (os : List Occurrence). filter_map (item_at gs) os) same_log
+                same.1))
                 (begun.sound M (subst (AllTrue (read_in M))
                 (ap₂ (λ gs ks. filter_map (slice_get gs) ks) same_log same.0) live)).literals
           ];

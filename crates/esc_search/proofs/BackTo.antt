@@ -3,14 +3,14 @@
 use Rattle.std.proofs.Common.{◌≡◌, ℕ, ◌≤◌, ◌+◌, ◌-◌, List, [], ◌∷◌, ◌++◌, length, map, take, drop}
 use Rattle.std.proofs.Common.{refl, sym, ap, subst, ◌∙◌, append_assoc, append-nil, arith}
 use Rattle.std.proofs.Common.{length-append}
-use Rattle.std.specs.List.{All}
 use Rattle.std.proofs.Math.Seq.{drop-append-add, take-append-add}
 use Rattle.std.proofs.lemmas.List.{take-append-drop}
 use Rattle.std.proofs.lemmas.List.Elements.{All-contains, All-nil, All-push, Contains-push}
 use Rattle.esc_trail.specs.Records.{Records}
 use Rattle.esc_trail.specs.Undo.{CanRewind, Notes, rewind}
 use Rattle.esc_trail.proofs.Noting.{notes_nothing}
-use Rattle.esc_trail.proofs.Rewinding.{CanRewind-append, CanRewind-split, rewind-alike, rewind-append}
+use Rattle.esc_trail.proofs.Rewinding.{CanRewind-append, CanRewind-split, rewind-alike}
+use Rattle.esc_trail.proofs.Rewinding.{rewind-append}
 use Rattle.esc_fact.specs.Fact.{formulas_of}
 use Rattle.esc_fact.specs.declared.base.Base.{Base}
 use Rattle.esc_fact.specs.declared.fact.Fact.{Fact}
@@ -22,7 +22,6 @@ use Rattle.esc_live.specs.Promises.{IsGiven}
 use Rattle.esc_live.specs.View.{logged}
 use Rattle.esc_live.specs.declared.branch.LiveBranch.{LiveBranch}
 use Rattle.esc_live.specs.declared.record.LiveRec.{LiveRec}
-use Rattle.esc_options.specs.declared.options.Limits.{Limits}
 use Rattle.esc_outcome.specs.Tree.{Side}
 use Rattle.esc_outcome.specs.declared.branch.Split.{Split}
 use Rattle.esc_play.specs.Play.{HasMore}

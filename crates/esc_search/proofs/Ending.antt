@@ -1,17 +1,18 @@
 -- What holds of a search that is left open, or whose root is refuted.
 use Rattle.std.proofs.Common.{◌≡◌, ℕ, ◌≤◌, IsTrue, List, [], ◌∷◌, ◌++◌, Option, Some, None, length}
-use Rattle.std.proofs.Common.{map, true, refl, sym, ap, subst, ◌∙◌, arith}
+use Rattle.std.proofs.Common.{map, append-nil, refl, sym, ap, subst, ◌∙◌, arith}
 use Rattle.std.specs.Prelude.{not, if◌then◌else◌}
-use Rattle.std.specs.List.{All, cons_option, filter, fold, range_with_len}
+use Rattle.std.specs.List.{All, AllPairs, Contains, cons_option, fold, range_with_len}
 use Rattle.std.specs.Option.{option_map, option_map_or}
-use Rattle.std.proofs.lemmas.List.Elements.{All-append, All-cons, All-head, All-map, All-nil}
+use Rattle.std.proofs.lemmas.List.Elements.{All-append, All-cons, All-contains, All-head}
+use Rattle.std.proofs.lemmas.List.Elements.{All-map, All-nil}
 use Rattle.std.proofs.lemmas.List.Elements.{All-push, All-tail}
 use Rattle.esc_term.specs.declared.formula.Formula.{Formula}
 use Rattle.esc_cover.specs.Arithmetic.{play_of}
 use Rattle.esc_cover.specs.Counterexample.{AllCovered, AreLiteralsOf}
 use Rattle.esc_fact.specs.Depth.{Deep, IsWithinLimits, deep, with_depth}
-use Rattle.esc_fact.specs.Fact.{IsFact, formula_of, formulas_of}
-use Rattle.esc_fact.specs.Legal.{IsLegal, first_facts, is_first, made_facts}
+use Rattle.esc_fact.specs.Fact.{formula_of, formulas_of}
+use Rattle.esc_fact.specs.Legal.{first_facts, is_first, made_facts}
 use Rattle.esc_fact.specs.declared.base.Base.{Base}
 use Rattle.esc_fact.specs.declared.fact.Fact.{Fact}
 use Rattle.esc_fact.specs.declared.fact.Fact.TheVariants as fact
@@ -24,15 +25,18 @@ use Rattle.esc_outcome.proofs.Decided.{root_closes}
 use Rattle.esc_outcome.proofs.FirstFacts.{first_legal}
 use Rattle.esc_refine.specs.Refining.{IsDone}
 use Rattle.esc_search.specs.Proving.{IsLeftOpen, IsRefutedLog, branch_of, live_facts}
-use Rattle.esc_search.specs.SearchInside.{IsOpenHere, IsSearch}
-use Rattle.esc_search.specs.declared.open_split.OpenSplit.{OpenSplit}
+use Rattle.esc_search.specs.SearchInside.{Climbs, IsOpenHere, IsSearch}
+use Rattle.esc_outcome.specs.Tree.{IsRefutedAt}
 use Rattle.esc_search.specs.declared.search.Search.{Search}
-use Rattle.esc_search.proofs.Reaching.{live_all, live_formulas_all}
+use Rattle.esc_search.specs.declared.course.Course.{Course}
+use Rattle.esc_search.proofs.FewFacts.{contains_filter, distinct_pairs, few_among}
+use Rattle.esc_search.proofs.FewFacts.{filter_contains, filter_distinct, live_logged}
+use Rattle.esc_search.proofs.Reaching.{live_read, named}
 use Rattle.esc_search.proofs.Stopping.{follow_open}
 
 -- ---- first facts are within all limits
 
-all_first : (base : Base) → All (λ f. IsTrue (is_first f)) (first_facts base)
+pub all_first : (base : Base) → All (λ f. IsTrue (is_first f)) (first_facts base)
 all_first base =
     All-append IsFirst (map fact.Given places)
     (cons_option (option_map (λ f. fact.NegGoal) base.negated) [])
@@ -96,24 +100,48 @@ module _ (base : Base) (depth : ℕ) where
         (sym (none_made (first_facts base) (all_first base))) (omega arith);
   }
 
+pub first_shallow : (base : Base) (depth : ℕ)
+    → All (λ d. d.depth ≤ depth) (deep base (first_facts base))
+first_shallow base depth = (first_within base depth 0).shallow
+
+pub none_made_first : (base : Base) → length (made_facts (first_facts base)) ≡ 0
+none_made_first base = ap length (none_made (first_facts base) (all_first base))
+
+-- ---- facts of the log
+
+-- distinct facts of a list that are made are no more than those of the list
+pub made_few : (live log : List Fact) → AllPairs (λ f g. f ≡ g → ⊥) live
+    → All (Contains log) live → length (made_facts live) ≤ length (made_facts log)
+made_few live log differ among =
+    few_among (made_facts live) (made_facts log)
+    (filter_distinct (λ f. not (is_first f)) live (distinct_pairs live differ))
+    (λ f h.
+    let there = filter_contains (λ g. not (is_first g)) live f h in
+    contains_filter (λ g. not (is_first g)) log f
+    (All-contains (Contains log) live f among there.0) there.1)
+
 -- ---- left open
 
-pub left_open : (base : Base) (s : Search) (os : List OpenSplit) → IsSearch base s os
-    → IsOpenHere base s → IsDone s.branch → IsLeftOpen base s
-left_open base s os search open_here done =
-    let facts : live_facts s ≡ first_facts base = live_all base s os search ∙ search.log in
+pub left_open : (base : Base) (s : Search) (course : Course) → IsSearch base s course
+    → IsOpenHere base s course.starts → IsDone s.branch → IsLeftOpen base s
+left_open base s course search open_here done =
     let formulas : live_on s.branch ≡ formulas_of base (live_facts s) =
-    live_formulas_all base s os search
-    ∙ (search.formulas ∙ ap (formulas_of base) (sym (live_all base s os search))) in
+    live_read base s search.formulas (named base s course search) in
     let shared = open_here.branch.shared in
+    let gathered = open_here.gathered in
+    let few : length (made_facts (live_facts s)) ≤ length (made_facts s.log) =
+    made_few (live_facts s) s.log gathered.legal.differ (live_logged s.log s.branch.book.live) in
     record {
       branch = open_here.branch;
       done = done;
-      within = subst (IsWithinLimits base s.limits.depth s.limits.facts) (sym facts)
-          (first_within base s.limits.depth s.limits.facts);
+      within = record {
+        legal = gathered.legal;
+        shallow = gathered.shallow;
+        few = omega (arith, few, search.few_facts);
+      };
       left = record {
         closed = search.closed;
-        are_facts = subst (All (IsFact base)) (sym facts) (first_legal base).are_facts;
+        are_facts = gathered.legal.are_facts;
         shared = shared.shared;
         play = subst (λ fs. IsSamePlay (play_in (shared_of s.branch.sharing)) (play_of fs))
             formulas shared.play;
@@ -124,14 +152,21 @@ left_open base s os search open_here done =
         are_literals = subst (λ fs. AreLiteralsOf fs (literals_on s.branch)) formulas
             shared.literals_are;
       };
-      follow = follow_open base s os search open_here;
+      follow = follow_open base s course search open_here;
     }
 
 -- ---- refuted
 
-pub refuted_log : (base : Base) (s : Search) → IsSearch base s []
-    → IsDoneIn base (branch_of s) s.under → IsRefutedLog base s
-refuted_log base s search refuted = record {
-  legal = subst (IsLegal base) (sym search.log) (first_legal base);
-  refuted = root_closes (formulas_of base s.log) s.splits (search.climbs refuted);
-}
+pub refuted_log : (base : Base) (s : Search) (course : Course) → course.waiting ≡ []
+    → IsSearch base s course → IsDoneIn base (branch_of s) s.under → IsRefutedLog base s
+refuted_log base s course none search refuted =
+    let fs = formulas_of base s.log in
+    let climbs : IsRefutedAt (fs ++ []) s.splits s.under → IsRefutedAt (fs ++ []) s.splits None =
+    subst (λ os. Climbs (IsRefutedAt (fs ++ []) s.splits) None os s.under) none (search.climbs [])
+    in
+    record {
+      legal = search.legal;
+      refuted = root_closes fs s.splits
+          (subst (λ gs. IsRefutedAt gs s.splits None) (append-nil fs)
+          (climbs (subst (λ gs. IsRefutedAt gs s.splits s.under) (sym (append-nil fs)) refuted)));
+    }

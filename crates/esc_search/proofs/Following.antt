@@ -1,8 +1,8 @@
 -- What follows from the formulas of a search.
-use Rattle.std.proofs.Common.{◌≡◌, Bool, true, false, List, [], ◌∷◌, ◌++◌, Option, Some, None, refl}
+use Rattle.std.proofs.Common.{◌≡◌, Bool, true, false, List, [], ◌∷◌, ◌++◌, Option, Some, None}
 use Rattle.std.proofs.Common.{sym, ap, subst, ◌∙◌}
 use Rattle.std.specs.Prelude.{IsSome, IsSomeAnd, if◌then◌else◌, not, slice_get}
-use Rattle.std.specs.List.{All, Contains, cons_option, filter_map}
+use Rattle.std.specs.List.{All, cons_option, filter_map}
 use Rattle.std.specs.Option.{option_map}
 use Rattle.std.proofs.lemmas.List.Elements.{All-append, All-contains, All-head}
 use Rattle.std.proofs.lemmas.List.Elements.{filter_map-append}
@@ -23,7 +23,7 @@ use Rattle.esc_clause.specs.declared.decision.Decision.{Decision}
 use Rattle.esc_sharing.proofs.Lists.{All-append_left, All-append_right, All-each}
 use Rattle.esc_live.specs.Promises.{decided_as}
 use Rattle.esc_outcome.specs.Causes.{AllFollow, stated}
-use Rattle.esc_outcome.specs.Tree.{IsOccurrence, IsTree, formulas_at, path_formulas, path_of}
+use Rattle.esc_outcome.specs.Tree.{IsOccurrence, IsTree, path_formulas, path_of}
 use Rattle.esc_outcome.specs.Tree.{said_by}
 use Rattle.esc_outcome.specs.declared.branch.Split.{Split}
 use Rattle.esc_outcome.proofs.Paths.{path_below}
@@ -61,27 +61,28 @@ said_so M b (Some f) there all =
     go true h = h
     go false h = not_true (truth (read_in M) f) (sym (truth-Not (read_in M) f) ∙ h)
 
-pub record IsSoBelow (M : Model) (fs : List Formula) (splits : List Split) (d : Decision)
+pub record IsSoBelow (M : Model) (gs fs : List Formula) (splits : List Split) (d : Decision)
     (split : Split) : Type 0 where
-  pub above : AllTrue (read_in M) (formulas_at fs splits split.under)
+  pub above : AllTrue (read_in M) (gs ++ path_formulas fs splits split.under)
   pub here : IsSo (HoldsIn M) fs (decided_as d)
 
--- a model of a side of a split is one of where it stands, and what is decided is so in it
-pub so_below : (M : Model) (fs : List Formula) (splits : List Split) (k : _) (split : Split)
+-- a model of these formulas and of a side of a split is one of where it stands, and what is decided
+-- is so in it
+pub so_below : (M : Model) (gs fs : List Formula) (splits : List Split) (k : _) (split : Split)
     (holds : Bool) → IsTree splits → slice_get splits k ≡ Some split → IsOccurrence fs split.at
-    → AllTrue (read_in M) (formulas_at fs splits (Some (k, holds)))
-    → IsSoBelow M fs splits (record { at = split.at; holds = holds }) split
-so_below M fs splits k split holds tree is there all =
+    → AllTrue (read_in M) (gs ++ path_formulas fs splits (Some (k, holds)))
+    → IsSoBelow M gs fs splits (record { at = split.at; holds = holds }) split
+so_below M gs fs splits k split holds tree is there all =
     let d : Decision = record { at = split.at; holds = holds } in
     let above = path_of splits split.under in
     let IsTrueIn : Formula → Type 0 = λ g. truth (read_in M) g ≡ true in
-    let below = subst (λ path. AllTrue (read_in M) (fs ++ filter_map (said_by fs) path))
+    let below = subst (λ path. AllTrue (read_in M) (gs ++ filter_map (said_by fs) path))
     (path_below splits k split holds tree is) all in
     let decided = subst (AllTrue (read_in M)) (filter_map-append (said_by fs) above (d ∷ []))
-    (All-append_right IsTrueIn fs (filter_map (said_by fs) (above ++ (d ∷ []))) below) in
+    (All-append_right IsTrueIn gs (filter_map (said_by fs) (above ++ (d ∷ []))) below) in
     record {
-      above = All-append IsTrueIn fs (filter_map (said_by fs) above)
-          (All-append_left IsTrueIn fs (filter_map (said_by fs) (above ++ (d ∷ []))) below)
+      above = All-append IsTrueIn gs (filter_map (said_by fs) above)
+          (All-append_left IsTrueIn gs (filter_map (said_by fs) (above ++ (d ∷ []))) below)
           (All-append_left IsTrueIn (filter_map (said_by fs) above)
           (filter_map (said_by fs) (d ∷ [])) decided);
       here = said_so M (are_alike holds split.at.positive) (formula_at fs split.at) there

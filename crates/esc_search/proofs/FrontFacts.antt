@@ -1,42 +1,30 @@
 -- The facts that name a formula of the base are logged, and become live.
-use Rattle.std.proofs.Common.{◌≡◌, ◌⊎◌, ℕ, ◌<◌, ◌≤◌, ◌+◌, suc, Bool, true, false, IsTrue, List, [], ◌∷◌, ◌++◌}
-use Rattle.std.proofs.Common.{zero, Option, Some, None, Result, Ok, Err, length, map, take, drop, get_or}
-use Rattle.std.proofs.Common.{append-nil, append_assoc, refl, sym, ap, ap₂, subst, subst₂, ◌∙◌, inl, inr}
-use Rattle.std.proofs.Common.{arith, length-append, zero-add}
-use Rattle.std.specs.Prelude.{IsSome, IsSomeAnd, OnOk, slice_get}
-use Rattle.std.specs.List.{All, Contains, cons_option, filter_map, flat_map, range_with_len}
-use Rattle.std.specs.Option.{option_and_then, option_map}
+use Rattle.std.proofs.Common.{◌≡◌, ℕ, ◌<◌, ◌≤◌, ◌+◌, suc, Bool, true, false, List, [], ◌∷◌, ◌++◌}
+use Rattle.std.proofs.Common.{zero, Option, Some, None, Result, Ok, Err, length, map, take, drop}
+use Rattle.std.proofs.Common.{get_or}
+use Rattle.std.proofs.Common.{append_assoc, refl, sym, ap, ap₂, subst, subst₂, ◌∙◌}
+use Rattle.std.proofs.Common.{arith}
+use Rattle.std.specs.Prelude.{IsSome, OnOk, slice_get}
+use Rattle.std.specs.List.{All, Contains, cons_option, filter_map, range_with_len}
+use Rattle.std.specs.Option.{option_map}
 use Rattle.std.proofs.lemmas.List.{get_or_append_left, length_push, length-take, map_push}
 use Rattle.std.proofs.lemmas.List.{take_all, take_more}
 use Rattle.std.proofs.Math.Seq.{take-append_seam}
-use Rattle.std.proofs.lemmas.List.Elements.{All-append, All-contains, All-cons, All-head, All-nil}
-use Rattle.std.proofs.lemmas.List.Elements.{All-tail, Contains-push, filter_map-append}
+use Rattle.std.proofs.lemmas.List.Elements.{All-contains, All-head}
+use Rattle.std.proofs.lemmas.List.Elements.{All-tail, filter_map-append}
 use Rattle.std.proofs.lemmas.List.FromFn.{length-range_with_len}
 use Rattle.std.proofs.lemmas.Option.{get_or_from_slice_get, slice_get-get_or, slice_get_within}
 use Rattle.esc_term.specs.declared.formula.Formula.{Formula}
-use Rattle.esc_term.specs.Interpretation.{truth}
 use Rattle.esc_term.specs.Model.{Model, read_in}
 use Rattle.esc_term.specs.Refuted.{AllTrue}
-use Rattle.esc_term.proofs.Models.{Refuted-from_models}
-use Rattle.esc_cover.specs.Laws.{HoldsIn}
-use Rattle.esc_clause.specs.Laws.{IsSo}
-use Rattle.esc_clause.specs.Occurrences.{formula_at, item_at, occurrences_of, signed}
-use Rattle.esc_clause.proofs.Places.{parts_from}
-use Rattle.esc_trail.specs.Records.{Records}
-use Rattle.esc_egraph.specs.declared.state.State.{State}
-use Rattle.esc_egraph.specs.declared.state.State.TheVariants as state
-use Rattle.esc_simplex.specs.declared.stop.Stop.{Stop}
-use Rattle.esc_simplex.specs.declared.stop.Stop.TheVariants as stop
 use Rattle.esc_fact.specs.Fact.{IsFact, formula_of, formulas_of}
 use Rattle.esc_fact.specs.Legal.{first_facts}
 use Rattle.esc_fact.specs.declared.base.Base.{Base}
 use Rattle.esc_fact.specs.declared.fact.Fact.{Fact}
 use Rattle.esc_fact.specs.declared.fact.Fact.TheVariants as fact
-use Rattle.esc_live.specs.Calls.{AddsLiterals, Ends, GoesLiveOrNothing, HoldsWithFact, IsStoppedAt}
-use Rattle.esc_live.specs.Promises.{IsBranch, IsGiven, IsSoundIn, whole_at}
-use Rattle.esc_live.specs.View.{literals_on, live_on, logged}
+use Rattle.esc_live.specs.Promises.{IsBranch, IsGiven, IsSoundIn}
+use Rattle.esc_live.specs.View.{live_on, logged}
 use Rattle.esc_live.specs.declared.branch.LiveBranch.{LiveBranch}
-use Rattle.esc_live.specs.declared.record.LiveRec.{LiveRec}
 use Rattle.esc_outcome.specs.Grown.{Grown}
 use Rattle.esc_outcome.specs.GrownLaws.{with_fact}
 use Rattle.esc_outcome.specs.Tree.{Side}
@@ -46,12 +34,10 @@ use Rattle.esc_fact.specs.Log.{Logs}
 use Rattle.esc_outcome.proofs.FirstFacts.{empty_is_grown, first_legal, given_at, givens}
 use Rattle.esc_outcome.proofs.FirstFacts.{grown_by_first, many}
 use Rattle.esc_outcome.proofs.Paths.{parted_at, slice_get_append_left, slice_get_push}
-use Rattle.esc_sharing.proofs.Lists.{All-append_left, All-append_right}
-use Rattle.esc_search.specs.Proving.{IsReady, branch_of, decided_on, live_facts}
-use Rattle.esc_search.specs.SearchInside.{Begins, IsBegun, IsHalted, IsLogged, said_on}
+use Rattle.esc_search.specs.Proving.{IsReady, branch_of}
+use Rattle.esc_search.specs.SearchInside.{IsBegun, IsLogged}
 use Rattle.esc_search.specs.declared.search.Search.{Search}
-use Rattle.esc_search.proofs.LiveFacts.{All-filter_map, filter_map-read, first_named}
-use Rattle.esc_search.proofs.LiveFacts.{length-first, slice_get-contained}
+use Rattle.esc_search.proofs.LiveFacts.{slice_get-contained}
 
 -- ---- places
 

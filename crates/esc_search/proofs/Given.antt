@@ -1,15 +1,15 @@
 -- One more formula of a background is asserted.
-use Rattle.std.proofs.Common.{◌≡◌, ℕ, ◌≤◌, ◌+◌, List, [], ◌∷◌, ◌++◌, Result, Ok, Err, length, ap, refl, sym}
-use Rattle.std.proofs.Common.{subst, ◌∙◌, arith}
+use Rattle.std.proofs.Common.{◌≡◌, ◌≤◌, ◌+◌, List, [], ◌∷◌, ◌++◌, Result, Ok, Err, length, ap, sym}
+use Rattle.std.proofs.Common.{◌∙◌, arith}
 use Rattle.std.specs.Prelude.{OnOk}
-use Rattle.std.specs.List.{All, range_with_len}
+use Rattle.std.specs.List.{range_with_len}
 use Rattle.std.proofs.lemmas.List.{length_push}
 use Rattle.std.proofs.lemmas.List.Elements.{All-nil}
 use Rattle.esc_fact.specs.declared.base.Base.{Base}
 use Rattle.esc_fact.specs.declared.fact.Fact.{Fact}
 use Rattle.esc_fact.specs.declared.fact.Fact.TheVariants as fact
 use Rattle.esc_outcome.specs.declared.branch.Cause.TheVariants as cause
-use Rattle.esc_search.specs.Levels.{GoesBackTo, KeepsLevels}
+use Rattle.esc_search.specs.Levels.{KeepsLevels}
 use Rattle.esc_search.specs.Proving.{ComesTo, GivenEnds, IsReady, LogsGiven}
 use Rattle.esc_search.specs.SearchInside.{IsArithmeticStop, IsBegun, IsKept, IsLoggedNext}
 use Rattle.esc_search.specs.declared.open_split.OpenSplit.{OpenSplit}

@@ -1,5 +1,5 @@
 -- A search ends a level, and is as it was where the level began.
-use Rattle.std.proofs.Common.{◌≡◌, ℕ, ◌<◌, ◌≤◌, List, [], ◌++◌, length, map, take, drop, sym, ap, ap₂}
+use Rattle.std.proofs.Common.{◌≡◌, ℕ, ◌<◌, ◌≤◌, List, [], length, map, take, drop, sym, ap, ap₂}
 use Rattle.std.proofs.Common.{refl, subst, ◌∙◌, append-nil, arith, length-append}
 use Rattle.std.specs.Prelude.{IsTrue, None, slice_get}
 use Rattle.std.specs.List.{All, filter_map, range_with_len}
@@ -35,7 +35,7 @@ use Rattle.esc_outcome.specs.Jam.{IsNumberOf, IsSenseOf}
 use Rattle.esc_outcome.specs.JamLaws.{IsGivenBy}
 use Rattle.esc_outcome.specs.Tree.{Side}
 use Rattle.esc_play.specs.Play.{HasMore}
-use Rattle.esc_search.specs.Levels.{GoesBackTo, IsAsBefore, IsBegunAt, KeepsLevels, arithmetic_of}
+use Rattle.esc_search.specs.Levels.{GoesBackTo, IsAsBefore, IsBegunAt, arithmetic_of}
 use Rattle.esc_search.specs.Levels.{IsBackAt as IsBackAtLevel}
 use Rattle.esc_search.specs.Levels.{meanings_of}
 use Rattle.esc_search.specs.Proving.{IsReady}

@@ -2,12 +2,15 @@ mod Asserting
 mod BackTo
 mod Climbing
 mod Ending
+mod FewFacts
 mod Following
 mod FrontFacts
 mod Given
+mod Gathered
 mod GoingBack
 mod LevelEnds
 mod LiveFacts
+mod Nearer
 mod Reaching
 mod Refined
 mod ReadyAlike

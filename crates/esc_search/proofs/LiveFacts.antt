@@ -1,6 +1,8 @@
 -- The facts that are live, and their formulas.
-use Rattle.std.proofs.Common.{◌≡◌, ℕ, ◌<◌, ◌+◌, zero, suc, true, List, [], ◌∷◌, ◌++◌, Option, Some, None, length, take, get_or}
-use Rattle.std.proofs.Common.{append-nil, append_assoc, refl, sym, ap, ap₂, subst, ◌∙◌, inl, inr, arith}
+use Rattle.std.proofs.Common.{◌≡◌, ℕ, ◌<◌, ◌+◌, zero, suc, true, List, [], ◌∷◌, ◌++◌, Option, Some}
+use Rattle.std.proofs.Common.{None, length, take, get_or}
+use Rattle.std.proofs.Common.{append-nil, append_assoc, refl, sym, ap, ap₂, subst, ◌∙◌, inl, inr}
+use Rattle.std.proofs.Common.{arith}
 use Rattle.std.specs.Prelude.{IsSome, slice_get}
 use Rattle.std.specs.List.{All, Contains, cons_option, filter_map, range_with_len}
 use Rattle.std.specs.Option.{option_and_then}
@@ -15,8 +17,7 @@ use Rattle.esc_term.specs.Refuted.{AllTrue}
 use Rattle.esc_fact.specs.Fact.{IsFact, formula_of, formulas_of}
 use Rattle.esc_fact.specs.Legal.{first_facts}
 use Rattle.esc_fact.specs.declared.base.Base.{Base}
-use Rattle.esc_fact.specs.declared.fact.Fact.{Fact}
-use Rattle.esc_sharing.proofs.Lists.{All-append_left, All-append_right, All-each}
+use Rattle.esc_sharing.proofs.Lists.{All-append_left, All-append_right}
 use Rattle.esc_outcome.proofs.FirstFacts.{first_legal}
 use Rattle.esc_outcome.proofs.Paths.{slice_get_append_left, slice_get_push}
 use Rattle.esc_search.specs.Proving.{live_facts}

@@ -1,6 +1,7 @@
 -- What is ready for one base is ready for another whose background has the same front.
-use Rattle.std.proofs.Common.{◌≡◌, ℕ, ◌<◌, ◌≤◌, ◌+◌, suc, zero, List, [], ◌∷◌, ◌++◌, Some, length, map, take}
-use Rattle.std.proofs.Common.{get_or, refl, sym, ap, ap₂, ◌∙◌, arith}
+use Rattle.std.proofs.Common.{◌≡◌, ℕ, ◌<◌, ◌≤◌, ◌+◌, suc, zero, List, [], ◌∷◌, ◌++◌, length, map}
+use Rattle.std.proofs.Common.{take}
+use Rattle.std.proofs.Common.{refl, sym, ap, ap₂, ◌∙◌, arith}
 use Rattle.std.specs.List.{cons_option, range_with_len}
 use Rattle.std.proofs.lemmas.List.{map_push, take_more}
 use Rattle.std.proofs.lemmas.List.Elements.{filter_map-append}
@@ -12,8 +13,7 @@ use Rattle.esc_fact.specs.Legal.{first_facts}
 use Rattle.esc_fact.specs.declared.base.Base.{Base}
 use Rattle.esc_fact.specs.declared.fact.Fact.{Fact}
 use Rattle.esc_fact.specs.declared.fact.Fact.TheVariants as fact
-use Rattle.esc_search.specs.Proving.{IsReady, ReadyIsAlike}
-use Rattle.esc_search.specs.declared.search.Search.{Search}
+use Rattle.esc_search.specs.Proving.{ReadyIsAlike}
 use Rattle.esc_search.proofs.FrontFacts.{given_next, range_push}
 
 -- the facts that name the first formulas of a background

@@ -1,5 +1,5 @@
 -- The branch is refined while facts are being asserted.
-use Rattle.std.proofs.Common.{◌≡◌, ◌≤◌, true, Result, Ok, Err, length, refl, sym, ap, subst, ◌∙◌}
+use Rattle.std.proofs.Common.{◌≡◌, ◌≤◌, true, Result, Ok, Err, length, sym, ap, subst, ◌∙◌}
 use Rattle.std.specs.Prelude.{slice_get}
 use Rattle.std.specs.List.{All, filter_map, range_with_len}
 use Rattle.std.proofs.lemmas.List.Elements.{All-contains}

@@ -1,13 +1,13 @@
 -- Rows that were copied fit where unknowns and restrictions are as they were, and what unknowns
 -- stand for only grew.
-use Rattle.std.proofs.Common.{◌≡◌, ℕ, ◌<◌, ◌≤◌, List, ◌++◌, length, take, get_or, sym, ap, subst, ◌∙◌}
+use Rattle.std.proofs.Common.{◌≡◌, ℕ, ◌<◌, ◌≤◌, List, length, take, get_or, sym, ap, subst, ◌∙◌}
 use Rattle.std.proofs.Common.{arith, length-append}
 use Rattle.std.specs.Prelude.{◌↔◌}
 use Rattle.std.specs.List.{All, Contains}
 use Rattle.std.proofs.Math.Seq.{take-append_seam}
 use Rattle.std.proofs.lemmas.List.{get_or-take, length-map, length-take, take-append-le, take-map}
 use Rattle.esc_tableau.specs.Listed.{tabled}
-use Rattle.esc_tableau.specs.Table.{IsRestricted, Table, size}
+use Rattle.esc_tableau.specs.Table.{IsRestricted, size}
 use Rattle.esc_tableau.specs.declared.listed.Rows.{Rows}
 use Rattle.esc_simplex.specs.Barred.{AreKeptRows}
 use Rattle.esc_simplex.specs.Calls.{AreRowsFor}

@@ -1,41 +1,30 @@
 -- What is told of a search that stops.
-use Rattle.std.proofs.Common.{◌≡◌, ℕ, ◌≤◌, IsTrue, List, [], ◌∷◌, ◌++◌, Some, length, refl, sym, ap}
-use Rattle.std.proofs.Common.{subst, subst₂, ◌∙◌, inl, inr, arith}
-use Rattle.std.specs.Prelude.{slice_get}
-use Rattle.std.specs.List.{All, Contains, filter_map}
-use Rattle.std.proofs.lemmas.List.Elements.{All-append, All-contains, All-weaker}
-use Rattle.esc_term.specs.declared.formula.Formula.{Formula}
+use Rattle.std.proofs.Common.{◌≡◌, ◌≤◌, IsTrue, List, Some, length, refl, sym}
+use Rattle.std.proofs.Common.{subst, subst₂, arith}
 use Rattle.esc_term.specs.declared.formula.Item.{Item}
-use Rattle.esc_term.specs.Interpretation.{truth}
-use Rattle.esc_term.specs.Model.{Model, read_in}
+use Rattle.esc_term.specs.Model.{read_in}
 use Rattle.esc_term.specs.Refuted.{AllTrue}
-use Rattle.esc_cover.specs.Laws.{HoldsIn}
-use Rattle.esc_clause.specs.Refinement.{is_same_place, next_split}
-use Rattle.esc_clause.specs.declared.decision.Decision.{Decision}
+use Rattle.esc_clause.specs.Refinement.{next_split}
 use Rattle.esc_clause.specs.declared.occurrence.Occurrence.{Occurrence}
-use Rattle.esc_fact.specs.Fact.{formulas_of}
-use Rattle.esc_fact.specs.Legal.{IsLegal}
 use Rattle.esc_fact.specs.declared.base.Base.{Base}
 use Rattle.esc_simplex.specs.declared.stop.Stop.{Stop}
-use Rattle.esc_live.specs.View.{judge_on, literals_on, logged}
-use Rattle.esc_outcome.specs.Causes.{AllFollow, IsOutOfSplits, IsStuck, formulas_on, is_endless}
+use Rattle.esc_live.specs.View.{judge_on, literals_on}
+use Rattle.esc_outcome.specs.Causes.{AllFollow, IsStuck, formulas_on, is_endless}
 use Rattle.esc_outcome.specs.Causes.{is_overflow}
 use Rattle.esc_outcome.specs.Jam.{IsJam}
 use Rattle.esc_outcome.specs.JamLaws.{stuck_with}
-use Rattle.esc_outcome.specs.Tree.{IsOccurrence, path_of}
 use Rattle.esc_outcome.specs.declared.branch.Branch.{Branch}
 use Rattle.esc_outcome.specs.declared.branch.Cause.TheVariants as cause
 use Rattle.esc_outcome.specs.declared.stuck.Stuck.{Stuck}
-use Rattle.esc_outcome.proofs.FirstFacts.{first_legal}
 use Rattle.esc_outcome.proofs.Following.{told_follows}
 use Rattle.esc_refine.specs.Refining.{IsQuiet, SplitsAt}
-use Rattle.esc_search.specs.Proving.{IsStopped, LiteralsFollow, branch_of, decided_on, live_facts}
+use Rattle.esc_search.specs.Proving.{IsStopped, LiteralsFollow, branch_of, decided_on}
 use Rattle.esc_search.specs.SearchInside.{IsHalted, IsOpenHere, IsSearch, said_on}
-use Rattle.esc_search.specs.declared.open_split.OpenSplit.{OpenSplit}
+use Rattle.esc_search.specs.declared.course.Course.{Course}
 use Rattle.esc_search.specs.declared.search.Search.{Search}
 use Rattle.esc_search.proofs.Following.{all_follow}
 use Rattle.esc_search.proofs.LiveFacts.{live_true}
-use Rattle.esc_search.proofs.Reaching.{said_all}
+use Rattle.esc_search.proofs.Reaching.{said_here}
 use Rattle.esc_search.proofs.Splitting.{split_new, split_there}
 
 -- ---- the arithmetic
@@ -85,11 +74,12 @@ module _ (base : Base) (s : Search) (why : Stop) (h : IsHalted base s why) where
 
 -- ---- splits
 
-module _ (base : Base) (s : Search) (os : List OpenSplit) (search : IsSearch base s os)
-    (open_here : IsOpenHere base s) where
+module _ (base : Base) (s : Search) (course : Course) (search : IsSearch base s course)
+    (open_here : IsOpenHere base s course.starts) where
   pub follow_open : LiteralsFollow base s
   follow_open = all_follow (said_on base s) (literals_on s.branch) (λ M all.
-      (open_here.sound M (subst (AllTrue (read_in M)) (said_all base s os search) all)).literals)
+      (open_here.sound M (subst (AllTrue (read_in M)) (said_here base s course search)
+      all)).literals)
 
   pub splits_told : (branch : Branch) (at : Occurrence) → branch ≡ branch_of s
       → IsQuiet s.branch → next_split (judge_on s.branch) s.branch.clauses ≡ Some at
@@ -99,11 +89,11 @@ module _ (base : Base) (s : Search) (os : List OpenSplit) (search : IsSearch bas
       subst (λ x. IsStopped base s (cause.Splits x at)) (sym b) (record {
         cause_is = record {
           grown = search.grown;
-          legal = subst (IsLegal base) (sym search.log) (first_legal base);
+          legal = search.legal;
           spent = omega (arith, spent, search.few);
           free = search.free;
-          next_there = split_there base s os search open_here at splits_at;
-          next_new = split_new base s os search open_here at splits_at;
+          next_there = split_there base s course search open_here at splits_at;
+          next_new = split_new base s course search open_here at splits_at;
         };
         tells = (refl, open_here.branch, quiet, next);
         follow = follow_open;

@@ -2,7 +2,6 @@
 use Rattle.std.specs.Prelude.{◌≡◌, ◌≤◌, ◌+◌, ◌-◌, ◌^◌, ℕ, min, List, [], ◌∷◌, ◌++◌, Some, None}
 use Rattle.std.specs.Prelude.{length, map, slice_get, take}
 use Rattle.std.specs.List.{filter_map, range_with_len}
-use Rattle.std.specs.Option.{IsSome}
 use Rattle.esc_term.specs.declared.formula.Formula.{Formula}
 use Rattle.esc_term.specs.Model.{Model, read_in}
 use Rattle.esc_term.specs.Refuted.{AllTrue, Refuted}
@@ -10,7 +9,7 @@ use Rattle.esc_clause.specs.Refinement.{next_split}
 use Rattle.esc_context.specs.Left.{IsLeft}
 use Rattle.esc_fact.specs.Depth.{IsWithinLimits}
 use Rattle.esc_fact.specs.Fact.{formulas_of}
-use Rattle.esc_fact.specs.Legal.{IsClosedBase, IsLegal, first_facts}
+use Rattle.esc_fact.specs.Legal.{IsLegal, first_facts}
 use Rattle.esc_fact.specs.declared.base.Base.{Base}
 use Rattle.esc_fact.specs.declared.fact.Fact.{Fact}
 use Rattle.esc_fact.specs.declared.fact.Fact.TheVariants.{Given}
@@ -22,7 +21,6 @@ use Rattle.esc_outcome.specs.Tree.{path_formulas}
 use Rattle.esc_outcome.specs.declared.branch.Branch.{Branch}
 use Rattle.esc_outcome.specs.declared.branch.Cause.{Cause}
 use Rattle.esc_outcome.specs.declared.branch.Cause.TheVariants as cause
-use Rattle.esc_options.specs.declared.options.Limits.{Limits}
 use Rattle.esc_outcome.specs.declared.stuck.Stuck.{Stuck}
 use Rattle.esc_refine.specs.Refining.{IsDone, IsQuiet}
 use Rattle.esc_search.specs.declared.outcome.Outcome.{Outcome}

@@ -13,7 +13,7 @@ ghost use Rattle.esc_search.specs.declared.search.Search.{Search as Searches};
 ghost use Rattle.esc_search.specs.SearchInside.{HaltsUnlessMemory, IsArithmeticStop, IsHalted};
 ghost use Rattle.esc_search.specs.SearchInside.{IsOpenHere, IsSearch};
 
-use crate::open_split::OpenSplits;
+use crate::course::Course;
 use crate::outcome::Outcome;
 use crate::search::Search;
 use esc_clause::Occurrence;
@@ -118,11 +118,11 @@ impl Search {
     pub(crate) fn out_of_splits(
         &self,
         base: &Base,
-        waiting: &OpenSplits,
+        course: &Course,
         at: Occurrence,
     ) -> Result<Cause, AllocError>
-        requires search { IsSearch base.now self.now waiting.now }
-        requires here { IsOpenHere base.now self.now }
+        requires search { IsSearch base.now self.now course.now }
+        requires here { IsOpenHere base.now self.now course.now.starts }
         requires quiet { IsQuiet self.now.branch }
         requires next { next_split (judge_on self.now.branch) self.now.branch.clauses ≡ Some at }
         requires splits { SplitsAt self.now.branch (Some at) }
@@ -130,7 +130,7 @@ impl Search {
         ensures { IfOk result (λ cause. IsStopped base.now self.now cause) }
     {
         let _base = base;
-        let _waiting = waiting;
+        let _course = course;
         let branch = self.kept()?;
         Ok(Cause::Splits(branch, at))
     }

@@ -3,6 +3,7 @@
 #![tactic(auto)]
 
 mod beginning;
+mod course;
 mod exploring;
 mod keeping;
 mod laws;

@@ -11,6 +11,8 @@ pub(crate) struct OpenSplit {
     pub(crate) mark: Mark,
     /// The place of the split among all splits.
     pub(crate) number: u64,
+    /// How many rounds the branch had had there.
+    pub(crate) rounds: u64,
     pub(crate) split: Split,
 }
 

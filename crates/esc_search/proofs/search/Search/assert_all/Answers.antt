@@ -1,4 +1,4 @@
-use Rattle.std.proofs.Common.{[], Ok, refl, subst, ◌∙◌}
+use Rattle.std.proofs.Common.{[], Ok, subst, ◌∙◌}
 use Rattle.esc_egraph.specs.declared.state.State.{State}
 use Rattle.esc_search.specs.SearchInside.{GoesLive}
 use Rattle.esc_search.proofs.BackTo.{kept_both, kept_same}

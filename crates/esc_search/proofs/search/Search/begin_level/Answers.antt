@@ -1,7 +1,5 @@
 use Rattle.std.proofs.Common.{ap, length, refl, ◌∙◌}
 use Rattle.esc_search.proofs.BackTo.{back_here}
-use Rattle.esc_search.specs.Levels.{IsBegunAt}
-use Rattle.esc_search.specs.declared.level.Level.{Level}
 use Rattle.esc_search.proofs.search.Search.begin_level.Goals as goal
 
 pub returns-clause-begun : goal.returns-clause-begun

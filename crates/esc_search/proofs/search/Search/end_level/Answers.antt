@@ -1,10 +1,8 @@
-use Rattle.std.proofs.Common.{ap, length, refl, subst, sym, take, ◌<◌, ◌≤◌, ◌≡◌, ◌∙◌}
+use Rattle.std.proofs.Common.{ap, length, refl, subst, sym, take, ◌<◌, ◌≤◌, ◌∙◌}
 use Rattle.std.specs.List.{All}
 use Rattle.esc_book.specs.Book.{BookView}
 use Rattle.esc_live.specs.View.{logged}
 use Rattle.esc_live.specs.declared.branch.LiveBranch.{LiveBranch}
-use Rattle.esc_search.specs.Levels.{GoesBackTo, IsAsBefore, IsBegunAt}
-use Rattle.esc_search.specs.declared.search.Search.{Search}
 use Rattle.esc_simplex.specs.Calls.{AreRowsFor}
 use Rattle.esc_simplex.specs.View.{IsSimplex}
 use Rattle.esc_simplex.specs.declared.simplex.Simplex.{Simplex}

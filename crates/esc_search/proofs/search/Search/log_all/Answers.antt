@@ -1,4 +1,4 @@
-use Rattle.std.proofs.Common.{[], arith, ap, length, refl, subst, sym, ◌≡◌, ◌∙◌, Some, ℕ}
+use Rattle.std.proofs.Common.{[], arith, ap, length, subst, sym, ◌≡◌, Some, ℕ}
 use Rattle.std.specs.Prelude.{slice_get}
 use Rattle.std.proofs.lemmas.List.{length_push}
 use Rattle.esc_fact.specs.Legal.{first_facts}

@@ -1,7 +1,7 @@
-use Rattle.std.proofs.Common.{[], None, ap, append-nil, refl, sym, ◌∙◌, ◌∷◌}
+use Rattle.std.proofs.Common.{[], None, ap, refl, sym, ◌∙◌, ◌∷◌}
 use Rattle.esc_outcome.specs.Tree.{Side}
 use Rattle.esc_play.proofs.MoreBehind.{more_none}
-use Rattle.esc_search.proofs.BackTo.{kept_same, kept_since, since_logged}
+use Rattle.esc_search.proofs.BackTo.{kept_since, since_logged}
 use Rattle.esc_fact.specs.Fact.{formulas_of}
 use Rattle.esc_live.specs.View.{logged}
 use Rattle.esc_live.specs.declared.branch.LiveBranch.{LiveBranch}

@@ -1,4 +1,4 @@
-use Rattle.std.proofs.Common.{[], arith, ap, length, subst, sym, ◌+◌, ◌<◌, ◌≡◌, ◌≤◌, ◌∙◌, ◌++◌, ◌∷◌, Some, ℕ}
+use Rattle.std.proofs.Common.{[], arith, ap, length, subst, sym, ◌≡◌, ◌∙◌, ◌++◌, ◌∷◌, Some, ℕ}
 use Rattle.std.specs.Prelude.{OnOk, slice_get}
 use Rattle.std.proofs.lemmas.List.FromFn.{length-range_with_len}
 use Rattle.esc_fact.specs.Legal.{first_facts}

@@ -3,20 +3,23 @@ use Rattle.esc_search.proofs.search.Search.open_split.Goals as goal
 
 pub returns-clause-search : goal.returns-clause-search
 returns-clause-search c =
-    search_made c.args.base.now c.args.self.now c.args.waiting.now c.requires.here.0
+    search_made c.args.base.now c.args.self.now c.args.course.now c.requires.here.0
     c.requires.here.1 c.args.at c.requires.splits c.push-2.new.self c.len-number.result
-    c.mark-mark.result c.len-number.ensures c.mark-mark.ensures c.in_ok-push-2.ensures.ok c.push.new.self
+    c.mark-mark.result c.len.result c.len-number.ensures c.mark-mark.ensures c.len.ensures
+    c.in_ok-push-2.ensures.ok c.push.new.self
     c.in_ok-push.ensures.ok c.requires.more
 
 pub returns-clause-ready : goal.returns-clause-ready
 returns-clause-ready c =
-    made_to_decide c.args.base.now c.args.self.now c.args.waiting.now c.requires.here.0
+    made_to_decide c.args.base.now c.args.self.now c.args.course.now c.requires.here.0
     c.requires.here.1 c.args.at c.requires.splits c.push-2.new.self c.len-number.result
-    c.mark-mark.result c.len-number.ensures c.mark-mark.ensures c.in_ok-push-2.ensures.ok
+    c.mark-mark.result c.len.result c.len-number.ensures c.mark-mark.ensures c.len.ensures
+    c.in_ok-push-2.ensures.ok
 
 pub returns-clause-nearer : goal.returns-clause-nearer
 returns-clause-nearer c =
-    nearer_made c.args.base.now c.args.self.now c.args.waiting.now c.requires.here.0
+    nearer_made c.args.base.now c.args.self.now c.args.course.now c.requires.here.0
     c.requires.here.1 c.args.at c.requires.splits c.push-2.new.self c.len-number.result
-    c.mark-mark.result c.len-number.ensures c.mark-mark.ensures c.in_ok-push-2.ensures.ok
+    c.mark-mark.result c.len.result c.len-number.ensures c.mark-mark.ensures c.len.ensures
+    c.in_ok-push-2.ensures.ok
     c.push.new.self c.in_ok-push.ensures.ok c.requires.more

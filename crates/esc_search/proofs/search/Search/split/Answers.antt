@@ -4,7 +4,7 @@ use Rattle.esc_search.proofs.search.Search.split.Goals as goal
 
 pub returns-in-Ok-clause-nearer : goal.returns-in-Ok-clause-nearer
 returns-in-Ok-clause-nearer c =
-    c.take_side.ensures.nearer (steps_left c.args.self.now c.args.waiting.now)
+    c.take_side.ensures.nearer (steps_left c.args.self.now c.args.course.now)
     c.in-Ok.ensures.nearer
 
 pub returns-in-Ok-clause-kept : goal.returns-in-Ok-clause-kept

@@ -4,6 +4,6 @@ use Rattle.esc_search.proofs.search.Search.take_side.Goals as goal
 
 pub returns-clause-nearer : goal.returns-clause-nearer
 returns-clause-nearer c = λ before h.
-    c.go_from.ensures.nearer before (steps_left c.decide-reached.new.self c.args.waiting.now)
-    (steps_kept c.args.base.now c.args.self.now c.decide-reached.new.self c.args.waiting.now before
+    c.go_from.ensures.nearer before (steps_left c.decide-reached.new.self c.args.course.now)
+    (steps_kept c.args.base.now c.args.self.now c.decide-reached.new.self c.args.course.now before
     c.decide-reached.ensures.kept c.decide-reached.ensures.splits h)
