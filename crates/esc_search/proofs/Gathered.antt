@@ -1,88 +1,23 @@
 -- The live facts stay gathered while literals and facts of the log come behind the others.
-use Rattle.std.proofs.Common.{◌≡◌, ℕ, ◌<◌, ◌≤◌, true, List, [], ◌∷◌, ◌++◌, length, map, refl, sym}
-use Rattle.std.proofs.Common.{subst, subst₂, arith, length-append, IsTrue}
-use Rattle.std.specs.List.{All, Any, Contains}
-use Rattle.std.proofs.lemmas.List.{map-append, take-append-le}
-use Rattle.std.proofs.lemmas.List.Elements.{All-contains, All-nil, All-weaker}
+use Rattle.std.proofs.Common.{◌≡◌, ℕ, ◌<◌, ◌≤◌, List, [], ◌∷◌, ◌++◌, length, refl, sym, subst, subst₂}
+use Rattle.std.proofs.Common.{arith, IsTrue}
+use Rattle.std.specs.List.{All, Contains}
+use Rattle.std.proofs.lemmas.List.Elements.{All-contains, All-contains_itself, All-nil}
 use Rattle.std.proofs.lemmas.List.Elements.{Contains-append_right}
 use Rattle.esc_term.proofs.Members.{Contains-here}
-use Rattle.esc_term.specs.declared.formula.Formula.{Formula}
-use Rattle.esc_term.specs.declared.formula.Formula.TheVariants.{Eq}
 use Rattle.esc_term.specs.declared.formula.Item.{Item}
-use Rattle.esc_term.specs.declared.term.Term.{Term}
-use Rattle.esc_term.specs.Model.{read_in}
-use Rattle.esc_term.specs.Interpretation.{truth}
-use Rattle.esc_term.specs.Refuted.{Follows}
-use Rattle.esc_term.proofs.Models.{Follows-from_models, Follows-in_models}
-use Rattle.esc_cover.specs.Classes.{active_terms}
 use Rattle.esc_fact.specs.Depth.{Deep, deep}
-use Rattle.esc_fact.specs.Fact.{formulas_of}
-use Rattle.esc_fact.specs.Legal.{IsLegal, first_facts, is_first}
+use Rattle.esc_fact.specs.Legal.{IsLegal, is_first}
 use Rattle.esc_fact.specs.declared.base.Base.{Base}
 use Rattle.esc_fact.specs.declared.fact.Fact.{Fact}
 use Rattle.esc_fact.specs.declared.fact.Fact.TheVariants as fact
 use Rattle.esc_live.specs.View.{literals_on}
 use Rattle.esc_live.specs.declared.branch.LiveBranch.{LiveBranch}
-use Rattle.esc_outcome.specs.Causes.{stated}
-use Rattle.esc_outcome.specs.Grown.{makers_of}
-use Rattle.esc_sharing.proofs.Lists.{All-append_left}
-use Rattle.esc_verdict.specs.Rounds.{AreMatched, AreRounds, AreRoundsBehind, IsMatched, IsMetAmong}
-use Rattle.esc_verdict.specs.Rounds.{IsRoundOf}
+use Rattle.esc_verdict.specs.Rounds.{AreMatched, AreRounds, IsMatched}
 use Rattle.esc_verdict.specs.declared.cause.Start.{Start}
+use Rattle.esc_verdict.proofs.MatchedFacts.{matched_by_more}
+use Rattle.esc_verdict.proofs.RoundAfterRound.{rounds_stay}
 use Rattle.esc_search.specs.SearchInside.{AreGathered, facts_on}
-
--- ---- more literals
-
-follows_more : (fs gs : List Formula) (f : Formula) → Follows fs f → Follows (fs ++ gs) f
-follows_more fs gs f h = Follows-from_models (fs ++ gs) f (λ M all.
-    Follows-in_models fs f h M
-    (All-append_left (λ (g : Formula). truth (read_in M) g ≡ true) fs gs
-    all))
-
-any_weaker : {X : Type 0} (P Q : X → Type 0) → ((x : X) → P x → Q x) → (xs : List X) → Any P xs
-    → Any Q xs
-any_weaker P Q weaker xs h = (h.0, h.1, h.2, h.3, weaker h.1 h.4)
-
-pub met_more : (base : Base) (before : List Fact) (items more : List Item) (fact : Fact)
-    → IsMatched base before items fact → IsMatched base before (items ++ more) fact
-met_more base before items more fact h =
-    let terms = active_terms (formulas_of base before) in
-    let known = map stated items in
-    let longer = map stated (items ++ more) in
-    let one : (t : Term) → IsMetAmong terms known t → IsMetAmong terms longer t =
-    λ t m. (
-      m.0,
-      m.1,
-      subst (λ fs. Follows fs (Eq t m.0))
-          (sym (map-append stated items more)) (follows_more known (map stated more) _ m.2),
-    ) in
-    any_weaker (All (IsMetAmong terms known)) (All (IsMetAmong terms longer))
-    (λ ts all. All-weaker (IsMetAmong terms known) (IsMetAmong terms longer) one ts all)
-    (makers_of base fact) h
-
-pub matched_more : (base : Base) (facts : List Fact) (items more : List Item)
-    → AreMatched base facts items → AreMatched base facts (items ++ more)
-matched_more base facts items more h before after fact e =
-    met_more base before items more fact (h before after fact e)
-
-pub rounds_more : (base : Base) (depth : ℕ) (facts : List Fact) (items more : List Item)
-    (starts : List Start) → AreRounds base depth facts items starts
-    → AreRounds base depth facts (items ++ more) starts
-rounds_more base depth facts items more starts = go starts (first_facts base)
-  where
-    go : (starts : List Start) (before : List Fact)
-        → AreRoundsBehind base depth facts items before starts
-        → AreRoundsBehind base depth facts (items ++ more) before starts
-    go [] before h = h
-    go (start ∷ starts) before h = (
-      h.0,
-      omega (arith, h.1, length-append items more),
-      h.2,
-      h.3,
-      subst (λ first. IsRoundOf base depth before first h.2)
-          (sym (take-append-le start.literals items more h.1)) h.4,
-      go starts (before ++ h.2) h.5,
-    )
 
 -- ---- the branch
 
@@ -98,9 +33,10 @@ module _ (base : Base) (depth : ℕ) (starts : List Start) (log longer : List Fa
     shallow = subst (λ fs. All (λ (d : Deep). d.depth ≤ depth) (deep base fs)) (sym facts)
         h.shallow;
     rounds = subst₂ (λ fs items. AreRounds base depth fs items starts) (sym facts) (sym literals)
-        (rounds_more base depth (facts_on log v) (literals_on v) more starts h.rounds);
+        (rounds_stay base depth (facts_on log v) (literals_on v) more starts h.rounds);
     matched = subst₂ (AreMatched base) (sym facts) (sym literals)
-        (matched_more base (facts_on log v) (literals_on v) more h.matched);
+        (λ before after fact e. matched_by_more base before before (literals_on v) more fact
+        (All-contains_itself before) (h.matched before after fact e));
   }
 
 -- ---- first facts

@@ -49,7 +49,8 @@ abbrev pub IsBehind : Search → List OpenSplit → Type 0
 IsBehind t waiting = All (λ o. length t.trail.records ≤ o.mark) waiting
 
 -- the formulas of the branch are those of the log, its arithmetic is given by them, limits and
--- tally are as they were, and what the search could go back to, before all open splits, it still can
+-- tally are as they were, and what the search could go back to, before all open splits, it still
+-- can
 pub record IsKept (base : Base) (old : Search) (before : List OpenSplit) (new : Search)
     (after : List OpenSplit) : Type 0 where
   pub given : IsGiven new.branch

@@ -1,1 +1,5 @@
+mod GrowingLog
+pub mod MatchedFacts
 mod Plain
+pub mod RoundAfterRound
+mod RoundFacts

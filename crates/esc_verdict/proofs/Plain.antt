@@ -1,23 +1,19 @@
 -- From a base without quantified formulas and maps with new values nothing is drawn.
-use Rattle.std.proofs.Common.{◌≡◌, ◌<◌, ◌^◌, ◌+◌, ℕ, List, [], ◌∷◌, ◌++◌, length, map, sym, ap, subst}
+use Rattle.std.proofs.Common.{◌≡◌, List, [], ◌∷◌, ◌++◌, length, sym, ap, subst}
 use Rattle.std.proofs.Common.{◌∙◌, arith, length-append}
-use Rattle.esc_fact.specs.Base.{formulas_in}
-use Rattle.esc_fact.specs.Legal.{IsLegal, first_facts}
+use Rattle.esc_fact.specs.Legal.{IsLegal}
 use Rattle.esc_fact.specs.declared.base.Base.{Base}
 use Rattle.esc_fact.specs.declared.fact.Fact.{Fact}
 use Rattle.esc_options.specs.declared.options.Limits.{Limits}
 use Rattle.esc_outcome.specs.Found as outcome
 use Rattle.esc_outcome.specs.PlainLaws.{IsPlain, IsPlainAndFree, PlainHasFirstFacts}
 use Rattle.esc_outcome.specs.PlainLaws as plain
-use Rattle.esc_outcome.specs.TreeLaws.{occurrences_in}
 use Rattle.esc_outcome.specs.declared.branch.Cause.TheVariants as older
 use Rattle.esc_outcome.specs.declared.counterexample.Counterexample.{Counterexample}
-use Rattle.esc_rounds.specs.Facts.{fact_of}
 use Rattle.esc_rounds.specs.Laws.{RoundsAreLegal}
-use Rattle.esc_verdict.specs.Causes.{IsCause, IsOutOfFacts, IsOutOfRounds}
+use Rattle.esc_verdict.specs.Causes.{IsOutOfFacts, IsOutOfRounds}
 use Rattle.esc_verdict.specs.Found.{IsInvalid}
 use Rattle.esc_verdict.specs.Laws.{PlainRunsOutOfSplits}
-use Rattle.esc_verdict.specs.declared.cause.Cause.{Cause}
 use Rattle.esc_verdict.specs.declared.cause.Cause.TheVariants as cause
 
 -- what is known of it without its rounds

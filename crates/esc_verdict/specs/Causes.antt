@@ -1,5 +1,5 @@
 -- What holds of a branch that stopped, by the cause that is told.
-use Rattle.std.specs.Prelude.{◌≡◌, ℕ, IsTrue, List, [], ◌∷◌, ◌++◌, length}
+use Rattle.std.specs.Prelude.{◌≡◌, IsTrue, List, [], ◌∷◌, ◌++◌, length}
 use Rattle.std.specs.List.{All, Contains}
 use Rattle.esc_term.specs.declared.term.Term.{Term}
 use Rattle.esc_cover.specs.Arithmetic.{play_of}

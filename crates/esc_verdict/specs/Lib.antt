@@ -1,4 +1,5 @@
 pub mod Causes
 pub mod Found
 pub mod Laws
+pub mod RoundLaws
 pub mod Rounds

@@ -6,4 +6,4 @@ mod cause;
 mod laws;
 
 pub use cause::{Cause, RoundsMade, Start, Starts};
-pub use laws::verdict_laws;
+pub use laws::{rounding_laws, verdict_laws};

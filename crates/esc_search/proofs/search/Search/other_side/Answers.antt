@@ -25,7 +25,8 @@ returns-clause-ready c =
     }) starts c.args.last.split.at false) (sym c.pop_to.ensures.rewound)
     (sym c.cut_starts.ensures)
     (other_to_decide c.live_laws.ensures.branch c.live_laws.ensures.sound
-    c.live_laws.ensures.rewound c.fact_laws.ensures.closed c.args.base.now c.args.self.now c.args.course.now c.args.last
+    c.live_laws.ensures.rewound c.fact_laws.ensures.closed c.args.base.now c.args.self.now
+    c.args.course.now c.args.last
     c.requires.here.0 c.requires.here.1 c.pop_to.new.self c.pop_to.ensures.records)
 
 pub returns-clause-kept : goal.returns-clause-kept
