@@ -16,3 +16,4 @@ pub use fact::{Fact, Facts};
 pub use laws::fact_laws;
 pub use log::FactLog;
 pub use naming::formula_of;
+pub use quantified::quantified_at;

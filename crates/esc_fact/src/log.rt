@@ -1,7 +1,7 @@
 //! The log.
 
 ghost use Rattle.std.specs.Prelude.{◌≡◌, ◌≤◌, [], length, take, IfOk, OnErr};
-ghost use Rattle.esc_fact.specs.Log.{Logs};
+ghost use Rattle.esc_fact.specs.Log.{IsPlaceOf, Logs};
 
 use crate::fact::Fact;
 use indexmap::IndexSet;
@@ -52,6 +52,13 @@ impl FactLog {
         ensures { result.now ≡ self.now }
     {
         self.facts.as_slice()
+    }
+
+    /// Where the fact stands, if it is there.
+    pub fn place(&self, fact: &Fact) -> Option<usize>
+        ensures { IsPlaceOf self.now fact.now result }
+    {
+        self.facts.get_index_of(fact)
     }
 
     /// Keeps the first facts, so many.

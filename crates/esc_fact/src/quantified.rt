@@ -61,7 +61,7 @@ fn find_in<'a>(formulas: &'a [Formula], place: &mut u64) -> Option<&'a Formula>
 }
 
 /// The quantified formula of the base with this number.
-pub(crate) fn quantified_at(base: &Base, number: u64) -> &Formula
+pub fn quantified_at(base: &Base, number: u64) -> &Formula
     requires { number < length (quantified_in base.now) }
     ensures { (q : Quantified) → slice_get (quantified_in base.now) number ≡ Some q
         → whole q ≡ result.now }

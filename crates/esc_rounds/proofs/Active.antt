@@ -146,7 +146,7 @@ module _ (base : Base) (facts : List Fact) (items : List Item) (s : Standing) (l
   abbrev Has : ℕ → Type 0
   Has n = HasTerm base facts (term_of s.graph.nodes n)
 
-  node_domain : (n : ℕ) → n < length s.graph.nodes
+  pub node_domain : (n : ℕ) → n < length s.graph.nodes
       → (truth_term ≡ term_of s.graph.nodes n) ⊎ Has n
   unfolding term_of
   node_domain n l =
@@ -201,7 +201,7 @@ module _ (base : Base) (facts : List Fact) (items : List Item) (s : Standing) (l
       (app_has m a l c))
       (Contains-map (term_of s.graph.nodes) (shape_at s.graph.nodes m).args a c)
 
-  has_or_not : (t : Term) → HasTerm base facts t ⊎ (HasTerm base facts t → ⊥)
+  pub has_or_not : (t : Term) → HasTerm base facts t ⊎ (HasTerm base facts t → ⊥)
   has_or_not t = go (has (flat_map formula.terms_of (formulas_of base facts)) t) refl
     where
       go : (b : Bool) → has (flat_map formula.terms_of (formulas_of base facts)) t ≡ b

@@ -45,7 +45,8 @@ use Rattle.esc_rounds.proofs.LegalRounds.{instance_have, kept_at, read_drawn, wr
 
 -- ---- first depths
 
-first_bound : (test : Formula → Bool) (limit : ℕ) (ds : List Deep) → All (λ d. d.depth ≤ limit) ds
+pub first_bound : (test : Formula → Bool) (limit : ℕ) (ds : List Deep)
+    → All (λ d. d.depth ≤ limit) ds
     → first_depth test ds ≤ limit
 first_bound test limit [] all = omega arith
 first_bound test limit (d ∷ ds) all =
@@ -57,7 +58,7 @@ first_bound test limit (d ∷ ds) all =
     go true later = all 0 d (omega arith)
     go false later = later
 
-first_stays : (test : Formula → Bool) (ds more : List Deep) (f : Formula)
+pub first_stays : (test : Formula → Bool) (ds more : List Deep) (f : Formula)
     → Contains (map (λ (d : Deep). d.formula) ds) f → test f ≡ true
     → first_depth test (ds ++ more) ≡ first_depth test ds
 first_stays test [] more f c passes = absurd (Contains-none f c)
@@ -78,10 +79,10 @@ first_stays test (d ∷ ds) more f c passes =
 
 -- ---- the formulas with their depths
 
-abbrev formulas : List Deep → List Formula
+abbrev pub formulas : List Deep → List Formula
 formulas ds = map (λ (d : Deep). d.formula) ds
 
-deep_formulas : (base : Base) (xs : List Fact) (ds : List Deep)
+pub deep_formulas : (base : Base) (xs : List Fact) (ds : List Deep)
     → formulas (fold (with_depth base) ds xs) ≡ formulas ds ++ formulas_of base xs
 deep_formulas base [] ds = sym (append-nil (formulas ds))
 deep_formulas base (x ∷ xs) ds =
@@ -99,11 +100,11 @@ deep_formulas base (x ∷ xs) ds =
         ∙ append_assoc (formulas ds) (f ∷ []) (formulas_of base xs)
 
 module _ (base : Base) (facts : List Fact) where
-  deep_has : (f : Formula) → Contains (formulas_of base facts) f
+  pub deep_has : (f : Formula) → Contains (formulas_of base facts) f
       → Contains (formulas (deep base facts)) f
   deep_has f c = subst (λ fs. Contains fs f) (sym (deep_formulas base facts [])) c
 
-  term_stays : (t : Term) (more : List Deep) → HasTerm base facts t
+  pub term_stays : (t : Term) (more : List Deep) → HasTerm base facts t
       → depth_of_term (deep base facts ++ more) t ≡ depth_of_term (deep base facts) t
   term_stays t more h =
       let found = Contains-flat_map terms_of (formulas_of base facts) t h in
@@ -111,7 +112,7 @@ module _ (base : Base) (facts : List Fact) where
       (deep_has found.0 found.1)
       (any_at (same_term t) (terms_of found.0) t found.2 ((same_term-is t t).1 refl))
 
-  atom_stays : (g : Formula) (more : List Deep) → HasAtom base facts g
+  pub atom_stays : (g : Formula) (more : List Deep) → HasAtom base facts g
       → depth_of_atom (deep base facts ++ more) g ≡ depth_of_atom (deep base facts) g
   atom_stays g more h =
       let found = Contains-flat_map atoms_of (formulas_of base facts) g h in
