@@ -50,7 +50,8 @@ whole_there fs place f is =
     ap (λ os. get_or os 0 None) (parts_from fs f place true 0 (f ∷ []) [] is
     (sym (append-nil (occurrences_of f ++ []) ∙ append-nil (occurrences_of f))))
 
-whole_so : (M : Model) (fs : List Formula) (place : ℕ) (f : Formula) → slice_get fs place ≡ Some f
+pub whole_so : (M : Model) (fs : List Formula) (place : ℕ) (f : Formula)
+    → slice_get fs place ≡ Some f
     → truth (read_in M) f ≡ true → IsSo (HoldsIn M) fs (whole_at place)
 whole_so M fs place f is holds =
     subst (λ o. IsSomeAnd (option_map (signed true) o) (HoldsIn M))

@@ -12,7 +12,7 @@ use Rattle.esc_cover.specs.Arithmetic.{play_of}
 use Rattle.esc_cover.specs.Counterexample.{AllCovered, AreLiteralsOf}
 use Rattle.esc_fact.specs.Depth.{Deep, IsWithinLimits, deep, with_depth}
 use Rattle.esc_fact.specs.Fact.{formula_of, formulas_of}
-use Rattle.esc_fact.specs.Legal.{first_facts, is_first, made_facts}
+use Rattle.esc_fact.specs.Legal.{IsLegal, first_facts, is_first, made_facts}
 use Rattle.esc_fact.specs.declared.base.Base.{Base}
 use Rattle.esc_fact.specs.declared.fact.Fact.{Fact}
 use Rattle.esc_fact.specs.declared.fact.Fact.TheVariants as fact
@@ -123,25 +123,27 @@ made_few live log differ among =
 -- ---- left open
 
 pub left_open : (base : Base) (s : Search) (course : Course) → IsSearch base s course
-    → IsOpenHere base s course.starts → IsDone s.branch → IsLeftOpen base s
+    → IsOpenHere base s course.starts [] → IsDone s.branch → IsLeftOpen base s
 left_open base s course search open_here done =
     let formulas : live_on s.branch ≡ formulas_of base (live_facts s) =
     live_read base s search.formulas (named base s course search) in
     let shared = open_here.branch.shared in
-    let gathered = open_here.gathered in
+    let legal : IsLegal base (live_facts s) =
+    subst (IsLegal base) (append-nil (live_facts s)) open_here.gathered.legal in
     let few : length (made_facts (live_facts s)) ≤ length (made_facts s.log) =
-    made_few (live_facts s) s.log gathered.legal.differ (live_logged s.log s.branch.book.live) in
+    made_few (live_facts s) s.log legal.differ (live_logged s.log s.branch.book.live) in
     record {
       branch = open_here.branch;
       done = done;
       within = record {
-        legal = gathered.legal;
-        shallow = gathered.shallow;
+        legal = legal;
+        shallow = subst (λ fs. All (λ (d : Deep). d.depth ≤ s.limits.depth) (deep base fs))
+            (append-nil (live_facts s)) open_here.gathered.shallow;
         few = omega (arith, few, search.few_facts);
       };
       left = record {
         closed = search.closed;
-        are_facts = gathered.legal.are_facts;
+        are_facts = legal.are_facts;
         shared = shared.shared;
         play = subst (λ fs. IsSamePlay (play_in (shared_of s.branch.sharing)) (play_of fs))
             formulas shared.play;

@@ -98,7 +98,7 @@ was_back back_branch back_sound base depth log splits starts split v w given is_
     record {
       branch = back_branch v w back given was.branch;
       formulas = ([], sym is_log ∙ sym (append-nil (logged v)));
-      gathered = gathered_still base depth starts log log w v was.gathered
+      gathered = gathered_still base depth starts [] log log w v was.gathered
           (subst (All (λ k. k < length log)) (sym same.live) was.gathered.places)
           (ap (filter_map (slice_get log)) same.live) []
           (literals ∙ sym (append-nil (literals_on w)));

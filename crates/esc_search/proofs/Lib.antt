@@ -1,3 +1,4 @@
+mod AssertNext
 mod Asserting
 mod BackTo
 mod Climbing
@@ -10,6 +11,7 @@ mod Gathered
 mod GoingBack
 mod LevelEnds
 mod LiveFacts
+mod LogNext
 mod Nearer
 mod Reaching
 mod Refined

@@ -73,7 +73,7 @@ cons_both h None xs = refl
 cons_both h (Some x) xs = refl
 
 module _ {X Y : Type 0} (h : X → Option Y) where
-  slice_get-filter_map : (xs : List X) → All (λ x. IsSome (h x)) xs → (k : ℕ)
+  pub slice_get-filter_map : (xs : List X) → All (λ x. IsSome (h x)) xs → (k : ℕ)
       → slice_get (filter_map h xs) k ≡ option_and_then h (slice_get xs k)
   slice_get-filter_map [] all k = refl
   slice_get-filter_map (x ∷ xs) all k =

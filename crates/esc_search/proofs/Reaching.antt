@@ -108,11 +108,12 @@ decided_still s w goes decided =
 -- ---- a call
 
 -- the live facts are those that there were, with more literals
-gathered_on : (base : Base) (depth : ℕ) (log : List Fact) (starts : List Start) (v w : LiveBranch)
-    → GoesOn v w → AreGathered base depth log v starts → AreGathered base depth log w starts
-gathered_on base depth log starts v w goes h =
+gathered_on : (base : Base) (depth : ℕ) (log : List Fact) (starts : List Start)
+    (coming : List Fact) (v w : LiveBranch) → GoesOn v w
+    → AreGathered base depth log v starts coming → AreGathered base depth log w starts coming
+gathered_on base depth log starts coming v w goes h =
     let live : w.book.live ≡ v.book.live = ap (λ (b : BookView). b.live) goes.book in
-    gathered_still base depth starts log log v w h
+    gathered_still base depth starts coming log log v w h
     (subst (All (λ k. k < length log)) (sym live) h.places)
     (ap (filter_map (slice_get log)) live)
     (filter_map (item_at (logged v)) goes.literals.0)
@@ -158,7 +159,8 @@ module _ (base : Base) (s : Search) (w : LiveBranch) (t : Records LiveRec) (cour
   said_same = ap (λ (b : BookView). live_formulas b
       ++ path_formulas (formulas_of base s.log) s.splits s.under) goes.book
 
-  module _ (So : Model → Type 0) (gathered : AreGathered base s.limits.depth s.log s.branch starts)
+  module _ (coming : List Fact) (So : Model → Type 0)
+      (gathered : AreGathered base s.limits.depth s.log s.branch starts coming)
       (so : (M : Model)
       → AllTrue (read_in M) (said_under (formulas_of base s.log) s.branch s.splits s.under)
       → So M) where
@@ -168,12 +170,12 @@ module _ (base : Base) (s : Search) (w : LiveBranch) (t : Records LiveRec) (cour
 
     pub reached : (r : Result State Stop)
         → (r ≡ Ok state.Open → WasDecided s.splits s.under w.clauses.decisions)
-        → Ends w So r → Reaches base after course r
+        → Ends w So r → Reaches base after course coming r
     reached (Ok state.Open) decided ends = (
       search_on,
       record {
         branch = ends.0;
-        gathered = gathered_on base s.limits.depth s.log starts s.branch w goes gathered;
+        gathered = gathered_on base s.limits.depth s.log starts coming s.branch w goes gathered;
         sound = λ M all. ends.1 M (so_after M all);
         decided = decided refl;
       },

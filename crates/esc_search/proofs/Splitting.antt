@@ -108,7 +108,7 @@ module _ (base : Base) (s : Search) (course : Course) (search : IsSearch base s 
 -- ---- the split
 
 module _ (base : Base) (s : Search) (course : Course) (search : IsSearch base s course)
-    (open_here : IsOpenHere base s course.starts) (at : Occurrence)
+    (open_here : IsOpenHere base s course.starts []) (at : Occurrence)
     (splits_at : SplitsAt s.branch (Some at))
   where
     abbrev fs : List Formula

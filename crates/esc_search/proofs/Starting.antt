@@ -1,5 +1,6 @@
 -- The search through the splits starts where all facts are live.
-use Rattle.std.proofs.Common.{◌≡◌, ℕ, ◌≤◌, ◌<◌, ◌+◌, get_or, List, [], ◌++◌, length, true, sym, ap}
+use Rattle.std.proofs.Common.{append-nil, ◌≡◌, ℕ, ◌≤◌, ◌<◌, ◌+◌, get_or, List, [], ◌++◌, length}
+use Rattle.std.proofs.Common.{true, sym, ap}
 use Rattle.std.proofs.Common.{subst}
 use Rattle.std.proofs.Common.{◌∙◌, arith}
 use Rattle.std.specs.Prelude.{slice_get}
@@ -49,8 +50,9 @@ search_starts base s closed all_logged all =
     let first = all_logged.1 in
     let places : length s.branch.book.live ≡ length s.log = omega (arith, all, begun.few) in
     let live = begun.live ∙ ap (range_with_len 0) places in
-    let facts : facts_on s.log s.branch ≡ first_facts base =
-    ap (filter_map (slice_get s.log)) live ∙ (filter_map-all_places s.log ∙ first) in
+    let facts : facts_on s.log s.branch ++ [] ≡ first_facts base =
+    append-nil (facts_on s.log s.branch)
+    ∙ (ap (filter_map (slice_get s.log)) live ∙ (filter_map-all_places s.log ∙ first)) in
     let legal : IsLegal base s.log = subst (IsLegal base) (sym first) (first_legal base) in (
       record {
         closed = closed;
@@ -74,6 +76,11 @@ search_starts base s closed all_logged all =
         branch = begun.branch;
         gathered = record {
           places = subst (All (λ k. k < length s.log)) (sym live) (all_below (length s.log));
+          begins = (
+            [],
+            sym (append-nil (facts_on s.log s.branch))
+                ∙ (facts ∙ sym (append-nil (first_facts base))),
+          );
           legal = subst (IsLegal base) (sym facts) (first_legal base);
           shallow = subst (λ fs. All (λ (d : Deep). d.depth ≤ s.limits.depth) (deep base fs))
               (sym facts) (first_shallow base s.limits.depth);

@@ -1,5 +1,5 @@
 -- What is told of a search that stops.
-use Rattle.std.proofs.Common.{◌≡◌, ◌≤◌, IsTrue, List, Some, length, refl, sym}
+use Rattle.std.proofs.Common.{[], ◌≡◌, ◌≤◌, IsTrue, List, Some, length, refl, sym}
 use Rattle.std.proofs.Common.{subst, subst₂, arith}
 use Rattle.esc_term.specs.declared.formula.Item.{Item}
 use Rattle.esc_term.specs.Model.{read_in}
@@ -75,7 +75,7 @@ module _ (base : Base) (s : Search) (why : Stop) (h : IsHalted base s why) where
 -- ---- splits
 
 module _ (base : Base) (s : Search) (course : Course) (search : IsSearch base s course)
-    (open_here : IsOpenHere base s course.starts) where
+    (open_here : IsOpenHere base s course.starts []) where
   pub follow_open : LiteralsFollow base s
   follow_open = all_follow (said_on base s) (literals_on s.branch) (λ M all.
       (open_here.sound M (subst (AllTrue (read_in M)) (said_here base s course search)

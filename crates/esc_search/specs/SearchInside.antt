@@ -137,22 +137,23 @@ facts_on log v = filter_map (slice_get log) v.book.live
 abbrev pub said_under : List Formula → LiveBranch → List Split → Side → List Formula
 said_under fs v splits side = live_on v ++ path_formulas fs splits side
 
--- the live facts are a legal list within the limit of depth, and rounds that began so gave them,
--- each matched by those before it
+-- the live facts, with those that are still to come of a round, are a legal list within the limit
+-- of depth, and rounds that began so gave them, each matched by those before it
 pub record AreGathered (base : Base) (depth : ℕ) (log : List Fact) (v : LiveBranch)
-    (starts : List Start) : Type 0 where
+    (starts : List Start) (coming : List Fact) : Type 0 where
   pub places : All (λ k. k < length log) v.book.live
-  pub legal : IsLegal base (facts_on log v)
-  pub shallow : All (λ d. d.depth ≤ depth) (deep base (facts_on log v))
-  pub rounds : AreRounds base depth (facts_on log v) (literals_on v) starts
-  pub matched : AreMatched base (facts_on log v) (literals_on v)
+  pub begins : HasMore (first_facts base) (facts_on log v)
+  pub legal : IsLegal base (facts_on log v ++ coming)
+  pub shallow : All (λ d. d.depth ≤ depth) (deep base (facts_on log v ++ coming))
+  pub rounds : AreRounds base depth (facts_on log v ++ coming) (literals_on v) starts
+  pub matched : AreMatched base (facts_on log v ++ coming) (literals_on v)
 
 -- how the branch was where it was split, with a log of which this one has more
 pub record WasSplit (base : Base) (depth : ℕ) (log : List Fact) (splits : List Split)
     (starts : List Start) (split : Split) (w : LiveBranch) : Type 0 where
   pub branch : IsBranch w
   pub formulas : HasMore (logged w) (formulas_of base log)
-  pub gathered : AreGathered base depth log w starts
+  pub gathered : AreGathered base depth log w starts []
   pub sound : (M : Model)
       → AllTrue (read_in M) (said_under (formulas_of base log) w splits split.under)
       → IsSoundIn M w
@@ -206,32 +207,38 @@ pub record IsSearch (base : Base) (s : Search) (course : Course) : Type 0 where
   pub older : AllPairs IsOlder course.waiting
   pub climbs : ClimbsOn (formulas_of base s.log) s.splits course.waiting s.under
 
--- the branch at hand is open
-pub record IsOpenHere (base : Base) (s : Search) (starts : List Start) : Type 0 where
+-- the branch at hand is open, and these facts are still to come of its last round
+pub record IsOpenHere (base : Base) (s : Search) (starts : List Start) (coming : List Fact) :
+    Type 0 where
   pub branch : IsBranch s.branch
-  pub gathered : AreGathered base s.limits.depth s.log s.branch starts
+  pub gathered : AreGathered base s.limits.depth s.log s.branch starts coming
   pub sound : (M : Model)
       → AllTrue (read_in M) (said_under (formulas_of base s.log) s.branch s.splits s.under)
       → IsSoundIn M s.branch
   pub decided : WasDecided s.splits s.under s.branch.clauses.decisions
 
 -- the branch at hand is open, or refuted
-abbrev pub IsHere : Base → Search → List Start → State → Type 0
-IsHere base s starts state.Open = IsOpenHere base s starts
-IsHere base s starts state.Closed = IsDoneIn base (branch_of s) s.under
+abbrev pub IsHere : Base → Search → List Start → List Fact → State → Type 0
+IsHere base s starts coming state.Open = IsOpenHere base s starts coming
+IsHere base s starts coming state.Closed = IsDoneIn base (branch_of s) s.under
+
+-- where these facts are still to come
+abbrev pub IsAmid : Base → Search → Course → List Fact → State → Type 0
+IsAmid base s course coming state =
+    IsSearch base s course × IsHere base s course.starts coming state
 
 abbrev pub IsAt : Base → Search → Course → State → Type 0
-IsAt base s course state = IsSearch base s course × IsHere base s course.starts state
+IsAt base s course = IsAmid base s course []
 
-abbrev pub Reaches : Base → Search → Course → Result State Stop → Type 0
-Reaches base s course (Ok state) = IsAt base s course state
-Reaches base s course (Err why) = HaltsUnlessMemory base s why
+abbrev pub Reaches : Base → Search → Course → List Fact → Result State Stop → Type 0
+Reaches base s course coming (Ok state) = IsAmid base s course coming state
+Reaches base s course coming (Err why) = HaltsUnlessMemory base s why
 
 -- the occurrence is to be decided so where the search is
 pub record IsToDecide (base : Base) (s : Search) (starts : List Start) (at : Occurrence)
     (holds : Bool) : Type 0 where
   pub branch : IsBranch s.branch
-  pub gathered : AreGathered base s.limits.depth s.log s.branch starts
+  pub gathered : AreGathered base s.limits.depth s.log s.branch starts []
   pub occurs : IsLiveOccurrence s.branch.book at
   pub undecided : IsUndecided s.branch at
   pub so : (M : Model)

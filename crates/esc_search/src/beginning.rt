@@ -22,7 +22,7 @@ use std::alloc::AllocError;
 
 impl Search {
     /// How many facts are logged.
-    fn count(&self) -> usize
+    pub(crate) fn count(&self) -> usize
         ensures { result ≡ length self.now.log }
     {
         self.log.list().len()

@@ -7,7 +7,7 @@ ghost use Rattle.esc_egraph.specs.declared.state.State.TheVariants as state;
 ghost use Rattle.esc_live.specs.View.{judge_on};
 ghost use Rattle.esc_refine.specs.Refining.{IsQuiet, SplitsAt};
 ghost use Rattle.esc_search.specs.Proving.{ComesTo};
-ghost use Rattle.esc_search.specs.SearchInside.{IsAt, IsKept, IsNearer, IsSearch};
+ghost use Rattle.esc_search.specs.SearchInside.{IsAmid, IsAt, IsKept, IsNearer, IsSearch};
 ghost use Rattle.esc_search.specs.SearchInside.{IsToDecide, Reaches, StepsTo, steps_left};
 
 use crate::course::Course;
@@ -18,7 +18,7 @@ use crate::search::Search;
 use crate::step::Step;
 use esc_clause::Occurrence;
 use esc_egraph::State;
-use esc_fact::{Base, fact_laws};
+use esc_fact::{Base, Fact, fact_laws};
 use esc_live::live_laws;
 use esc_outcome::Split;
 use esc_refine::{next_split, refine};
@@ -38,7 +38,7 @@ impl Search {
     ) -> Result<State, Stop>
         requires search { IsSearch base.now self.old course.now }
         requires ready { IsToDecide base.now self.old course.now.starts at holds }
-        ensures reaches { Reaches base.now self.new course.now result }
+        ensures reaches { Reaches base.now self.new course.now [] result }
         ensures splits { self.new.splits ≡ self.old.splits }
         ensures kept { IsKept base.now self.old course.now.waiting self.new
             course.now.waiting }
@@ -48,16 +48,22 @@ impl Search {
         self.branch.decide(at, holds, &mut self.trail)
     }
 
-    /// Refines the branch at hand.
-    fn refine_here(&mut self, base: &Base, course: &Course) -> Result<State, Stop>
-        requires here { IsAt base.now self.old course.now state.Open }
-        ensures reaches { Reaches base.now self.new course.now result }
+    /// Refines the branch at hand, where these facts are still to come.
+    pub(crate) fn refine_here(
+        &mut self,
+        base: &Base,
+        coming: &[Fact],
+        course: &Course,
+    ) -> Result<State, Stop>
+        requires here { IsAmid base.now self.old course.now coming.now state.Open }
+        ensures reaches { Reaches base.now self.new course.now coming.now result }
         ensures quiet { result ≡ Ok state.Open → IsQuiet self.new.branch }
         ensures splits { self.new.splits ≡ self.old.splits }
         ensures kept { IsKept base.now self.old course.now.waiting self.new
             course.now.waiting }
     {
         let _base = base;
+        let _coming = coming;
         let _course = course;
         refine(&mut self.branch, &mut self.trail)
     }
@@ -119,7 +125,7 @@ impl Search {
 
     /// Goes on from what a call reached.
     fn go_from(&self, base: &Base, course: &Course, reached: Result<State, Stop>) -> Step
-        requires reaches { Reaches base.now self.now course.now reached }
+        requires reaches { Reaches base.now self.now course.now [] reached }
         ensures steps { StepsTo base.now self.now course.now result }
         ensures nearer { (before after : ℕ) → after < before → IsNearer before after result }
     {
@@ -209,7 +215,7 @@ impl Search {
         ensures kept { IsKept base.now self.old course.old.waiting self.new
             course.new.waiting }
     {
-        match self.refine_here(base, course) {
+        match self.refine_here(base, &[], course) {
             Ok(State::Open) => self.go_on_refined(base, course),
             Ok(State::Closed) => self.go_back(base, course),
             Err(stop) => Step::Ends(self.stopped_by(base, stop)),

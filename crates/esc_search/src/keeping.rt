@@ -1,6 +1,6 @@
 //! What is kept of a search that stops.
 
-ghost use Rattle.std.specs.Prelude.{◌≡◌, ◌≤◌, IfOk, IsTrue, Some, length};
+ghost use Rattle.std.specs.Prelude.{[], ◌≡◌, ◌≤◌, IfOk, IsTrue, Some, length};
 ghost use Rattle.esc_clause.specs.Refinement.{next_split};
 ghost use Rattle.esc_fact.specs.declared.base.Base.{Base as Bases};
 ghost use Rattle.esc_live.specs.View.{judge_on, literals_on};
@@ -122,7 +122,7 @@ impl Search {
         at: Occurrence,
     ) -> Result<Cause, AllocError>
         requires search { IsSearch base.now self.now course.now }
-        requires here { IsOpenHere base.now self.now course.now.starts }
+        requires here { IsOpenHere base.now self.now course.now.starts [] }
         requires quiet { IsQuiet self.now.branch }
         requires next { next_split (judge_on self.now.branch) self.now.branch.clauses ≡ Some at }
         requires splits { SplitsAt self.now.branch (Some at) }

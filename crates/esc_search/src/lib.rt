@@ -2,6 +2,7 @@
 //! left open, or a limit is met.
 #![tactic(auto)]
 
+mod adding;
 mod beginning;
 mod course;
 mod exploring;

@@ -1,5 +1,5 @@
-mod GrowingLog
+pub mod GrowingLog
 pub mod MatchedFacts
 mod Plain
 pub mod RoundAfterRound
-mod RoundFacts
+pub mod RoundFacts

@@ -21,7 +21,7 @@ use Rattle.esc_verdict.specs.Rounds.{IsRoundOf}
 
 -- ---- a front of a legal list
 
-legal_front : (base : Base) (xs more ys : List Fact) → xs ≡ first_facts base ++ more
+pub legal_front : (base : Base) (xs more ys : List Fact) → xs ≡ first_facts base ++ more
     → IsLegal base (xs ++ ys) → IsLegal base xs
 legal_front base xs more ys begins legal = record {
   more = more;

@@ -7,7 +7,7 @@ pub returns-clause-reaches : goal.returns-clause-reaches
 returns-clause-reaches c =
     reached c.args.base.now c.args.self.now c.decide.new.self c.decide.new.trail
     c.args.course.now c.requires.search c.decide.ensures.undo c.decide.ensures.goes_on
-    c.decide.ensures.given
+    c.decide.ensures.given []
     (HoldsWithDecision c.args.self.now.branch (record { at = c.args.at; holds = c.args.holds }))
     c.requires.ready.gathered c.requires.ready.so c.decide.result
     (decided_on_ok c.args.self.now c.decide.new.self
