@@ -8,7 +8,7 @@ use Rattle.std.proofs.lemmas.List.Elements.{All-nil}
 use Rattle.esc_fact.specs.declared.base.Base.{Base}
 use Rattle.esc_fact.specs.declared.fact.Fact.{Fact}
 use Rattle.esc_fact.specs.declared.fact.Fact.TheVariants as fact
-use Rattle.esc_outcome.specs.declared.branch.Cause.TheVariants as cause
+use Rattle.esc_verdict.specs.declared.cause.Cause.TheVariants as cause
 use Rattle.esc_search.specs.Levels.{KeepsLevels}
 use Rattle.esc_search.specs.Proving.{ComesTo, GivenEnds, IsReady, LogsGiven}
 use Rattle.esc_search.specs.SearchInside.{IsArithmeticStop, IsBegun, IsKept, IsLoggedNext}

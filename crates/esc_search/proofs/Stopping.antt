@@ -14,7 +14,7 @@ use Rattle.esc_outcome.specs.Causes.{is_overflow}
 use Rattle.esc_outcome.specs.Jam.{IsJam}
 use Rattle.esc_outcome.specs.JamLaws.{stuck_with}
 use Rattle.esc_outcome.specs.declared.branch.Branch.{Branch}
-use Rattle.esc_outcome.specs.declared.branch.Cause.TheVariants as cause
+use Rattle.esc_verdict.specs.declared.cause.Cause.TheVariants as cause
 use Rattle.esc_outcome.specs.declared.stuck.Stuck.{Stuck}
 use Rattle.esc_outcome.proofs.Following.{told_follows}
 use Rattle.esc_refine.specs.Refining.{IsQuiet, SplitsAt}

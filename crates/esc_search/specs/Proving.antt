@@ -15,14 +15,15 @@ use Rattle.esc_fact.specs.declared.fact.Fact.{Fact}
 use Rattle.esc_fact.specs.declared.fact.Fact.TheVariants.{Given}
 use Rattle.esc_live.specs.Promises.{IsBranch, IsGiven, IsSoundIn}
 use Rattle.esc_live.specs.View.{judge_on, literals_on, live_on, logged}
-use Rattle.esc_outcome.specs.Causes.{AllFollow, IsCause}
+use Rattle.esc_outcome.specs.Causes.{AllFollow}
 use Rattle.esc_outcome.specs.JamLaws.{stuck_with}
 use Rattle.esc_outcome.specs.Tree.{path_formulas}
 use Rattle.esc_outcome.specs.declared.branch.Branch.{Branch}
-use Rattle.esc_outcome.specs.declared.branch.Cause.{Cause}
-use Rattle.esc_outcome.specs.declared.branch.Cause.TheVariants as cause
 use Rattle.esc_outcome.specs.declared.stuck.Stuck.{Stuck}
 use Rattle.esc_refine.specs.Refining.{IsDone, IsQuiet}
+use Rattle.esc_verdict.specs.Causes.{IsCause}
+use Rattle.esc_verdict.specs.declared.cause.Cause.{Cause}
+use Rattle.esc_verdict.specs.declared.cause.Cause.TheVariants as cause
 use Rattle.esc_search.specs.declared.outcome.Outcome.{Outcome}
 use Rattle.esc_search.specs.declared.outcome.Outcome.TheVariants as outcome
 use Rattle.esc_search.specs.declared.search.Search.{Search}
@@ -84,7 +85,7 @@ pub record IsLeftOpen (base : Base) (s : Search) : Type 0 where
   pub follow : LiteralsFollow base s
 
 -- the cause tells of the branch at hand: how its arithmetic is stuck, or what is to be split next
--- where nothing is left to refine
+-- or which facts are live where nothing is left to refine
 abbrev pub IsStuckSo : Search → Stuck → Type 0
 IsStuckSo s stuck = stuck ≡ stuck_with s.branch.sharing stuck.jam (literals_on s.branch)
 
@@ -93,6 +94,9 @@ TellsOf s (cause.Overflow branch stuck) = (branch ≡ branch_of s) × IsStuckSo 
 TellsOf s (cause.Pivots branch stuck) = (branch ≡ branch_of s) × IsStuckSo s stuck
 TellsOf s (cause.Splits branch next) = (branch ≡ branch_of s) × IsBranch s.branch
     × IsQuiet s.branch × (next_split (judge_on s.branch) s.branch.clauses ≡ Some next)
+TellsOf s (cause.Rounds branch made) = (branch ≡ branch_of s) × IsBranch s.branch
+    × IsQuiet s.branch × (made.live ≡ live_facts s) × (made.literals ≡ literals_on s.branch)
+TellsOf s (cause.Facts branch next) = branch ≡ branch_of s
 
 pub record IsStopped (base : Base) (s : Search) (cause : Cause) : Type 0 where
   pub cause_is : IsCause base s.limits cause
@@ -112,6 +116,8 @@ abbrev pub IsOfArithmetic : Cause → Type 0
 IsOfArithmetic (cause.Overflow branch stuck) = Unit {0}
 IsOfArithmetic (cause.Pivots branch stuck) = Unit {0}
 IsOfArithmetic (cause.Splits branch next) = ⊥
+IsOfArithmetic (cause.Rounds branch made) = ⊥
+IsOfArithmetic (cause.Facts branch next) = ⊥
 
 -- Open where it is asserted too, Closed where the formulas so far are refuted
 abbrev pub GivenEnds : Base → Search → Outcome → Type 0

@@ -18,9 +18,10 @@ use crate::outcome::Outcome;
 use crate::search::Search;
 use esc_clause::Occurrence;
 use esc_fact::{Base, Facts};
-use esc_outcome::{Branch, Cause, Stuck, stuck_of};
+use esc_outcome::{Branch, Stuck, stuck_of};
 use esc_simplex::Stop;
 use esc_term::Copied;
+use esc_verdict::Cause;
 use sqlite_items::Items;
 use std::alloc::AllocError;
 

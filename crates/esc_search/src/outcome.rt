@@ -1,6 +1,6 @@
 //! What a search answers.
 
-use esc_outcome::Cause;
+use esc_verdict::Cause;
 
 /// What a search came to.
 #[derive(Drop)]
