@@ -53,8 +53,8 @@ use Rattle.esc_search.proofs.Reaching.{from_log, halted_at, named}
 use Rattle.esc_search.proofs.Waiting.{waits_on}
 
 -- what differs from all behind it does not stand before
-not_before : {X : Type 0} (xs ys : List X) (x : X) → AllPairs (λ a b. a ≡ b → ⊥) (xs ++ (x ∷ ys))
-    → Contains xs x → ⊥
+pub not_before : {X : Type 0} (xs ys : List X) (x : X)
+    → AllPairs (λ a b. a ≡ b → ⊥) (xs ++ (x ∷ ys)) → Contains xs x → ⊥
 not_before xs ys x differ there =
     let at : get_or (xs ++ (x ∷ ys)) (length xs) x ≡ x = get_or-append_seam xs x ys x in
     differ there.0 (length xs) x there.1 (omega (arith, length-append xs (x ∷ ys)))

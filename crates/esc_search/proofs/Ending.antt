@@ -16,7 +16,7 @@ use Rattle.esc_fact.specs.Legal.{IsLegal, first_facts, is_first, made_facts}
 use Rattle.esc_fact.specs.declared.base.Base.{Base}
 use Rattle.esc_fact.specs.declared.fact.Fact.{Fact}
 use Rattle.esc_fact.specs.declared.fact.Fact.TheVariants as fact
-use Rattle.esc_context.specs.Left.{shared_of}
+use Rattle.esc_context.specs.Left.{IsLeft, shared_of}
 use Rattle.esc_sharing.specs.Shared.{play_in}
 use Rattle.esc_sharing.specs.Unquantified.{IsSamePlay}
 use Rattle.esc_live.specs.View.{classes_on, literals_on, live_on}
@@ -24,9 +24,11 @@ use Rattle.esc_outcome.specs.Grown.{IsDoneIn}
 use Rattle.esc_outcome.proofs.Decided.{root_closes}
 use Rattle.esc_outcome.proofs.FirstFacts.{first_legal}
 use Rattle.esc_refine.specs.Refining.{IsDone}
-use Rattle.esc_search.specs.Proving.{IsLeftOpen, IsRefutedLog, branch_of, live_facts}
+use Rattle.esc_search.specs.Proving.{IsLeftOpen, IsRefutedLog, IsSaturatedHere, branch_of}
+use Rattle.esc_search.specs.Proving.{live_facts}
 use Rattle.esc_search.specs.SearchInside.{Climbs, IsOpenHere, IsSearch}
 use Rattle.esc_outcome.specs.Tree.{IsRefutedAt}
+use Rattle.esc_verdict.specs.Rounds.{AreMatched, AreRounds}
 use Rattle.esc_search.specs.declared.search.Search.{Search}
 use Rattle.esc_search.specs.declared.course.Course.{Course}
 use Rattle.esc_search.proofs.FewFacts.{contains_filter, distinct_pairs, few_among}
@@ -120,42 +122,74 @@ made_few live log differ among =
     contains_filter (λ g. not (is_first g)) log f
     (All-contains (Contains log) live f among there.0) there.1)
 
--- ---- left open
+-- ---- the branch at hand
 
-pub left_open : (base : Base) (s : Search) (course : Course) → IsSearch base s course
-    → IsOpenHere base s course.starts [] → IsDone s.branch → IsLeftOpen base s
-left_open base s course search open_here done =
-    let formulas : live_on s.branch ≡ formulas_of base (live_facts s) =
-    live_read base s search.formulas (named base s course search) in
-    let shared = open_here.branch.shared in
-    let legal : IsLegal base (live_facts s) =
-    subst (IsLegal base) (append-nil (live_facts s)) open_here.gathered.legal in
-    let few : length (made_facts (live_facts s)) ≤ length (made_facts s.log) =
-    made_few (live_facts s) s.log legal.differ (live_logged s.log s.branch.book.live) in
-    record {
-      branch = open_here.branch;
-      done = done;
-      within = record {
-        legal = legal;
-        shallow = subst (λ fs. All (λ (d : Deep). d.depth ≤ s.limits.depth) (deep base fs))
-            (append-nil (live_facts s)) open_here.gathered.shallow;
-        few = omega (arith, few, search.few_facts);
-      };
-      left = record {
-        closed = search.closed;
-        are_facts = legal.are_facts;
-        shared = shared.shared;
-        play = subst (λ fs. IsSamePlay (play_in (shared_of s.branch.sharing)) (play_of fs))
-            formulas shared.play;
-        asserted = shared.asserted;
-        one_sign = shared.consistent.one_sign;
-        covered = subst (AllCovered (literals_on s.branch) (classes_on s.branch)) formulas
-            done.facts;
-        are_literals = subst (λ fs. AreLiteralsOf fs (literals_on s.branch)) formulas
-            shared.literals_are;
-      };
-      follow = follow_open base s course search open_here;
-    }
+module _ (base : Base) (s : Search) (course : Course) (search : IsSearch base s course)
+    (open_here : IsOpenHere base s course.starts []) where
+  abbrev live : List Fact
+  live = live_facts s
+
+  formulas : live_on s.branch ≡ formulas_of base live
+  formulas = live_read base s search.formulas (named base s course search)
+
+  pub legal_here : IsLegal base live
+  legal_here = subst (IsLegal base) (append-nil live) open_here.gathered.legal
+
+  pub shallow_here : All (λ d. d.depth ≤ s.limits.depth) (deep base live)
+  shallow_here = subst (λ fs. All (λ (d : Deep). d.depth ≤ s.limits.depth) (deep base fs))
+      (append-nil live) open_here.gathered.shallow
+
+  pub rounds_here : AreRounds base s.limits.depth live (literals_on s.branch) course.starts
+  rounds_here = subst (λ fs. AreRounds base s.limits.depth fs (literals_on s.branch) course.starts)
+      (append-nil live) open_here.gathered.rounds
+
+  -- what the round after these begins with
+  pub matched_here : AreMatched base live (literals_on s.branch)
+  matched_here = subst (λ fs. AreMatched base fs (literals_on s.branch)) (append-nil live)
+      open_here.gathered.matched
+
+  pub among_log : All (Contains s.log) live
+  among_log = live_logged s.log s.branch.book.live
+
+  few_here : length (made_facts live) ≤ length (made_facts s.log)
+  few_here = made_few live s.log legal_here.differ among_log
+
+  pub within_here : IsWithinLimits base s.limits.depth s.limits.facts live
+  within_here = record {
+    legal = legal_here;
+    shallow = shallow_here;
+    few = omega (arith, few_here, search.few_facts);
+  }
+
+  pub literals_here : AreLiteralsOf (formulas_of base live) (literals_on s.branch)
+  literals_here = subst (λ fs. AreLiteralsOf fs (literals_on s.branch)) formulas
+      open_here.branch.shared.literals_are
+
+  left_here : IsDone s.branch → IsLeft base s.branch.sharing live (literals_on s.branch)
+  left_here done = record {
+    closed = search.closed;
+    are_facts = legal_here.are_facts;
+    shared = open_here.branch.shared.shared;
+    play = subst (λ fs. IsSamePlay (play_in (shared_of s.branch.sharing)) (play_of fs))
+        formulas open_here.branch.shared.play;
+    asserted = open_here.branch.shared.asserted;
+    one_sign = open_here.branch.shared.consistent.one_sign;
+    covered = subst (AllCovered (literals_on s.branch) (classes_on s.branch)) formulas
+        done.facts;
+    are_literals = literals_here;
+  }
+
+  pub left_open : IsDone s.branch → IsSaturatedHere base s → IsLeftOpen base s
+  left_open done saturated = record {
+    branch = open_here.branch;
+    done = done;
+    within = within_here;
+    left = left_here done;
+    follow = follow_open base s course search open_here;
+    saturated = saturated;
+    starts = course.starts;
+    rounds = rounds_here;
+  }
 
 -- ---- refuted
 

@@ -78,6 +78,9 @@ comes_tallied base s t outcome.Open is = record {
   within = is.within;
   left = is.left;
   follow = is.follow;
+  saturated = is.saturated;
+  starts = is.starts;
+  rounds = is.rounds;
 }
 comes_tallied base s t (outcome.Stopped (cause.Overflow b stuck)) is = record {
   cause_is = is.cause_is;
@@ -90,6 +93,16 @@ comes_tallied base s t (outcome.Stopped (cause.Pivots b stuck)) is = record {
   follow = is.follow;
 }
 comes_tallied base s t (outcome.Stopped (cause.Splits b next)) is = record {
+  cause_is = is.cause_is;
+  tells = is.tells;
+  follow = is.follow;
+}
+comes_tallied base s t (outcome.Stopped (cause.Rounds b made)) is = record {
+  cause_is = is.cause_is;
+  tells = is.tells;
+  follow = is.follow;
+}
+comes_tallied base s t (outcome.Stopped (cause.Facts b next)) is = record {
   cause_is = is.cause_is;
   tells = is.tells;
   follow = is.follow;

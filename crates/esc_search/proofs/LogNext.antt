@@ -101,7 +101,7 @@ made_push xs f =
 
 module _ (base : Base) (s : Search) (course : Course) (fact : Fact) (coming : List Fact)
     (search : IsSearch base s course) (here : IsOpenHere base s course.starts (fact ∷ coming))
-    (new : Contains s.log fact → ⊥) (more_may : length (made_facts s.log) < s.limits.facts) where
+    (new : Contains s.log fact → ⊥) where
   abbrev live : List Fact
   live = live_facts s
 
@@ -131,7 +131,7 @@ module _ (base : Base) (s : Search) (course : Course) (fact : Fact) (coming : Li
   among : All (Contains s.log) live
   among = live_logged s.log s.branch.book.live
 
-  legal_log : IsLegal base longer
+  pub legal_log : IsLegal base longer
   legal_log = log_may_grow base s.log live fact search.legal among legal_live new
 
   follow : AllFollow (formulas_on base (branch_of s)) (literals_on s.branch)
@@ -155,7 +155,7 @@ module _ (base : Base) (s : Search) (course : Course) (fact : Fact) (coming : Li
         gathered.shallow);
   }
 
-  grown_next : Grown base s.limits.depth (with_fact (branch_of s) fact)
+  pub grown_next : Grown base s.limits.depth (with_fact (branch_of s) fact)
   grown_next =
       grown_by_fact base s.limits.depth (branch_of s) fact search.grown
       (record { more = []; legal = subst (IsLegal base) (sym (append-nil longer)) legal_log })
@@ -164,7 +164,8 @@ module _ (base : Base) (s : Search) (course : Course) (fact : Fact) (coming : Li
 
   -- ---- the branch with its formula
 
-  module _ (w : LiveBranch) (g : Formula) (is : formula_of base fact ≡ Some g)
+  module _ (more_may : length (made_facts s.log) < s.limits.facts) (w : LiveBranch) (g : Formula)
+      (is : formula_of base fact ≡ Some g)
       (grows : logged w ≡ logged s.branch ++ g ∷ [])
       (same : w ≡ record s.branch { book = record s.branch.book { logged = logged w } })
       (is_branch : IsBranch w) (given : IsGiven w)

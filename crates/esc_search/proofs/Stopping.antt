@@ -1,14 +1,12 @@
 -- What is told of a search that stops.
-use Rattle.std.proofs.Common.{[], ◌≡◌, ◌≤◌, IsTrue, List, Some, length, refl, sym}
-use Rattle.std.proofs.Common.{subst, subst₂, arith}
+use Rattle.std.proofs.Common.{◌≡◌, IsTrue, List, refl, sym, subst, subst₂}
 use Rattle.esc_term.specs.declared.formula.Item.{Item}
 use Rattle.esc_term.specs.Model.{read_in}
 use Rattle.esc_term.specs.Refuted.{AllTrue}
-use Rattle.esc_clause.specs.Refinement.{next_split}
-use Rattle.esc_clause.specs.declared.occurrence.Occurrence.{Occurrence}
 use Rattle.esc_fact.specs.declared.base.Base.{Base}
+use Rattle.esc_fact.specs.declared.fact.Fact.{Fact}
 use Rattle.esc_simplex.specs.declared.stop.Stop.{Stop}
-use Rattle.esc_live.specs.View.{judge_on, literals_on}
+use Rattle.esc_live.specs.View.{literals_on}
 use Rattle.esc_outcome.specs.Causes.{AllFollow, IsStuck, formulas_on, is_endless}
 use Rattle.esc_outcome.specs.Causes.{is_overflow}
 use Rattle.esc_outcome.specs.Jam.{IsJam}
@@ -17,7 +15,6 @@ use Rattle.esc_outcome.specs.declared.branch.Branch.{Branch}
 use Rattle.esc_verdict.specs.declared.cause.Cause.TheVariants as cause
 use Rattle.esc_outcome.specs.declared.stuck.Stuck.{Stuck}
 use Rattle.esc_outcome.proofs.Following.{told_follows}
-use Rattle.esc_refine.specs.Refining.{IsQuiet, SplitsAt}
 use Rattle.esc_search.specs.Proving.{IsStopped, LiteralsFollow, branch_of, decided_on}
 use Rattle.esc_search.specs.SearchInside.{IsHalted, IsOpenHere, IsSearch, said_on}
 use Rattle.esc_search.specs.declared.course.Course.{Course}
@@ -25,7 +22,6 @@ use Rattle.esc_search.specs.declared.search.Search.{Search}
 use Rattle.esc_search.proofs.Following.{all_follow}
 use Rattle.esc_search.proofs.LiveFacts.{live_true}
 use Rattle.esc_search.proofs.Reaching.{said_here}
-use Rattle.esc_search.proofs.Splitting.{split_new, split_there}
 
 -- ---- the arithmetic
 
@@ -72,29 +68,11 @@ module _ (base : Base) (s : Search) (why : Stop) (h : IsHalted base s why) where
         follow = follow_here;
       })
 
--- ---- splits
+-- ---- what is said where the search is
 
-module _ (base : Base) (s : Search) (course : Course) (search : IsSearch base s course)
-    (open_here : IsOpenHere base s course.starts []) where
-  pub follow_open : LiteralsFollow base s
-  follow_open = all_follow (said_on base s) (literals_on s.branch) (λ M all.
-      (open_here.sound M (subst (AllTrue (read_in M)) (said_here base s course search)
-      all)).literals)
-
-  pub splits_told : (branch : Branch) (at : Occurrence) → branch ≡ branch_of s
-      → IsQuiet s.branch → next_split (judge_on s.branch) s.branch.clauses ≡ Some at
-      → SplitsAt s.branch (Some at) → s.limits.splits ≤ length s.splits
-      → IsStopped base s (cause.Splits branch at)
-  splits_told branch at b quiet next splits_at spent =
-      subst (λ x. IsStopped base s (cause.Splits x at)) (sym b) (record {
-        cause_is = record {
-          grown = search.grown;
-          legal = search.legal;
-          spent = omega (arith, spent, search.few);
-          free = search.free;
-          next_there = split_there base s course search open_here at splits_at;
-          next_new = split_new base s course search open_here at splits_at;
-        };
-        tells = (refl, open_here.branch, quiet, next);
-        follow = follow_open;
-      })
+pub follow_open : {coming : List Fact} (base : Base) (s : Search) (course : Course)
+    → IsSearch base s course → IsOpenHere base s course.starts coming → LiteralsFollow base s
+follow_open base s course search open_here =
+    all_follow (said_on base s) (literals_on s.branch) (λ M all.
+    (open_here.sound M (subst (AllTrue (read_in M)) (said_here base s course search)
+    all)).literals)

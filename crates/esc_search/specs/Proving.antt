@@ -22,8 +22,10 @@ use Rattle.esc_outcome.specs.declared.branch.Branch.{Branch}
 use Rattle.esc_outcome.specs.declared.stuck.Stuck.{Stuck}
 use Rattle.esc_refine.specs.Refining.{IsDone, IsQuiet}
 use Rattle.esc_verdict.specs.Causes.{IsCause}
+use Rattle.esc_verdict.specs.Rounds.{AreRounds, IsSaturated}
 use Rattle.esc_verdict.specs.declared.cause.Cause.{Cause}
 use Rattle.esc_verdict.specs.declared.cause.Cause.TheVariants as cause
+use Rattle.esc_verdict.specs.declared.cause.Start.{Start}
 use Rattle.esc_search.specs.declared.outcome.Outcome.{Outcome}
 use Rattle.esc_search.specs.declared.outcome.Outcome.TheVariants as outcome
 use Rattle.esc_search.specs.declared.search.Search.{Search}
@@ -76,31 +78,48 @@ abbrev pub LiteralsFollow : Base → Search → Type 0
 LiteralsFollow base s =
     AllFollow (formulas_of base (live_facts s) ++ decided_on base s) (literals_on s.branch)
 
--- the branch at hand is left open: its live facts are within limits, and each is covered
+-- a round of the live facts and of the literals adds nothing
+abbrev pub IsSaturatedHere : Base → Search → Type 0
+IsSaturatedHere base s =
+    IsSaturated base s.limits.depth (live_facts s) (literals_on s.branch)
+
+-- rounds with these starts gave the facts
+abbrev pub GaveRounds : Base → Search → List Fact → List Start → Type 0
+GaveRounds base s facts = AreRounds base s.limits.depth facts (literals_on s.branch)
+
+-- the branch at hand is left open: its live facts are within limits, rounds gave them, each is
+-- covered, and no round adds any
 pub record IsLeftOpen (base : Base) (s : Search) : Type 0 where
   pub branch : IsBranch s.branch
   pub done : IsDone s.branch
   pub within : IsWithinLimits base s.limits.depth s.limits.facts (live_facts s)
   pub left : IsLeft base s.branch.sharing (live_facts s) (literals_on s.branch)
   pub follow : LiteralsFollow base s
+  pub saturated : IsSaturatedHere base s
+  pub starts : List Start
+  pub rounds : GaveRounds base s (live_facts s) starts
 
--- the cause tells of the branch at hand: how its arithmetic is stuck, or what is to be split next
--- or which facts are live where nothing is left to refine
+-- The cause tells of the branch at hand: how its arithmetic is stuck; what is to be split next,
+-- where nothing is left to refine and no round adds facts; which facts are live before another
+-- round; or that the fact comes next in a round.
 abbrev pub IsStuckSo : Search → Stuck → Type 0
 IsStuckSo s stuck = stuck ≡ stuck_with s.branch.sharing stuck.jam (literals_on s.branch)
 
-abbrev pub TellsOf : Search → Cause → Type 0
-TellsOf s (cause.Overflow branch stuck) = (branch ≡ branch_of s) × IsStuckSo s stuck
-TellsOf s (cause.Pivots branch stuck) = (branch ≡ branch_of s) × IsStuckSo s stuck
-TellsOf s (cause.Splits branch next) = (branch ≡ branch_of s) × IsBranch s.branch
-    × IsQuiet s.branch × (next_split (judge_on s.branch) s.branch.clauses ≡ Some next)
-TellsOf s (cause.Rounds branch made) = (branch ≡ branch_of s) × IsBranch s.branch
+abbrev pub TellsOf : Base → Search → Cause → Type 0
+TellsOf base s (cause.Overflow branch stuck) = (branch ≡ branch_of s) × IsStuckSo s stuck
+TellsOf base s (cause.Pivots branch stuck) = (branch ≡ branch_of s) × IsStuckSo s stuck
+TellsOf base s (cause.Splits branch next) = (branch ≡ branch_of s) × IsBranch s.branch
+    × IsQuiet s.branch × IsSaturatedHere base s
+    × (starts : List Start) × GaveRounds base s (live_facts s) starts
+    × (next_split (judge_on s.branch) s.branch.clauses ≡ Some next)
+TellsOf base s (cause.Rounds branch made) = (branch ≡ branch_of s) × IsBranch s.branch
     × IsQuiet s.branch × (made.live ≡ live_facts s) × (made.literals ≡ literals_on s.branch)
-TellsOf s (cause.Facts branch next) = branch ≡ branch_of s
+TellsOf base s (cause.Facts branch next) = (branch ≡ branch_of s) × (rest : List Fact)
+    × (starts : List Start) × GaveRounds base s (live_facts s ++ next ∷ rest) starts
 
 pub record IsStopped (base : Base) (s : Search) (cause : Cause) : Type 0 where
   pub cause_is : IsCause base s.limits cause
-  pub tells : TellsOf s cause
+  pub tells : TellsOf base s cause
   pub follow : LiteralsFollow base s
 
 abbrev pub ComesTo : Base → Search → Outcome → Type 0

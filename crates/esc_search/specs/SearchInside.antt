@@ -258,9 +258,13 @@ abbrev pub steps_left : Search → Course → ℕ
 steps_left s course =
     sides_left s course * (s.limits.rounds + 1) + (s.limits.rounds - length course.starts)
 
+-- where these facts are still to come
+abbrev pub StepsAmid : Base → Search → Course → List Fact → Step → Type 0
+StepsAmid base s course coming (step.Goes state) = IsAmid base s course coming state
+StepsAmid base s course coming (step.Ends outcome) = ComesTo base s outcome
+
 abbrev pub StepsTo : Base → Search → Course → Step → Type 0
-StepsTo base s course (step.Goes state) = IsAt base s course state
-StepsTo base s course (step.Ends outcome) = ComesTo base s outcome
+StepsTo base s course = StepsAmid base s course []
 
 -- where the search goes on, fewer steps are left than this
 abbrev pub IsNearer : ℕ → ℕ → Step → Type 0

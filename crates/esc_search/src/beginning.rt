@@ -29,7 +29,7 @@ impl Search {
     }
 
     /// How many facts are live.
-    fn live_count(&self) -> usize
+    pub(crate) fn live_count(&self) -> usize
         ensures { result ≡ length self.now.branch.book.live }
     {
         self.branch.book.live().len()

@@ -4,11 +4,13 @@ ghost use Rattle.std.specs.Prelude.{◌≡◌, ℕ, ◌<◌, ◌+◌, ◌∷◌,
 ghost use Rattle.std.specs.Prelude.{false, take};
 ghost use Rattle.esc_clause.specs.Refinement.{next_split};
 ghost use Rattle.esc_egraph.specs.declared.state.State.TheVariants as state;
-ghost use Rattle.esc_live.specs.View.{judge_on};
+ghost use Rattle.esc_live.specs.View.{judge_on, literals_on};
 ghost use Rattle.esc_refine.specs.Refining.{IsQuiet, SplitsAt};
-ghost use Rattle.esc_search.specs.Proving.{ComesTo};
+ghost use Rattle.esc_search.specs.Proving.{ComesTo, IsSaturatedHere, live_facts};
 ghost use Rattle.esc_search.specs.SearchInside.{IsAmid, IsAt, IsKept, IsNearer, IsSearch};
-ghost use Rattle.esc_search.specs.SearchInside.{IsToDecide, Reaches, StepsTo, steps_left};
+ghost use Rattle.esc_search.specs.SearchInside.{IsToDecide, Reaches, StepsAmid, StepsTo};
+ghost use Rattle.esc_search.specs.SearchInside.{steps_left};
+ghost use Rattle.esc_verdict.specs.Rounds.{IsRoundOf};
 
 use crate::course::Course;
 use crate::keeping::answered;
@@ -23,7 +25,7 @@ use esc_live::live_laws;
 use esc_outcome::Split;
 use esc_refine::{next_split, refine};
 use esc_simplex::Stop;
-use esc_verdict::Starts;
+use esc_verdict::{Starts, rounding_laws};
 use sqlite_items::Items;
 use std::alloc::AllocError;
 
@@ -123,12 +125,19 @@ impl Search {
         cut_starts(&mut course.starts, last.rounds as usize);
     }
 
-    /// Goes on from what a call reached.
-    fn go_from(&self, base: &Base, course: &Course, reached: Result<State, Stop>) -> Step
-        requires reaches { Reaches base.now self.now course.now [] reached }
-        ensures steps { StepsTo base.now self.now course.now result }
+    /// Goes on from what a call reached, where these facts are still to come.
+    pub(crate) fn go_from(
+        &self,
+        base: &Base,
+        coming: &[Fact],
+        course: &Course,
+        reached: Result<State, Stop>,
+    ) -> Step
+        requires reaches { Reaches base.now self.now course.now coming.now reached }
+        ensures steps { StepsAmid base.now self.now course.now coming.now result }
         ensures nearer { (before after : ℕ) → after < before → IsNearer before after result }
     {
+        let _coming = coming;
         let _course = course;
         match reached {
             Ok(state) => Step::Goes(state),
@@ -147,13 +156,14 @@ impl Search {
             course.now.waiting }
     {
         let reached = self.decide(base, at, holds, course);
-        self.go_from(base, course, reached)
+        self.go_from(base, &[], course, reached)
     }
 
     /// Splits where the branch at hand is to be split, and goes on with the first side.
     fn split(&mut self, base: &Base, at: Occurrence, course: &mut Course) -> Step
         requires here { IsAt base.now self.old course.old state.Open }
         requires quiet { IsQuiet self.old.branch }
+        requires saturated { IsSaturatedHere base.now self.old }
         requires next { next_split (judge_on self.old.branch) self.old.branch.clauses ≡ Some at }
         requires splits { SplitsAt self.old.branch (Some at) }
         ensures steps { StepsTo base.now self.new course.new result }
@@ -172,7 +182,7 @@ impl Search {
     }
 
     /// Goes back to the newest open split, and on with its other side.
-    fn go_back(&mut self, base: &Base, course: &mut Course) -> Step
+    pub(crate) fn go_back(&mut self, base: &Base, course: &mut Course) -> Step
         requires here { IsAt base.now self.old course.old state.Closed }
         ensures steps { StepsTo base.now self.new course.new result }
         ensures nearer { IsNearer (steps_left self.old course.old) (steps_left self.new course.new)
@@ -190,6 +200,45 @@ impl Search {
         }
     }
 
+    /// Goes on with a refined branch to which no round adds facts.
+    fn go_on_saturated(&mut self, base: &Base, course: &mut Course) -> Step
+        requires here { IsAt base.now self.old course.old state.Open }
+        requires quiet { IsQuiet self.old.branch }
+        requires saturated { IsSaturatedHere base.now self.old }
+        ensures steps { StepsTo base.now self.new course.new result }
+        ensures nearer { IsNearer (steps_left self.old course.old) (steps_left self.new course.new)
+            result }
+        ensures kept { IsKept base.now self.old course.old.waiting self.new
+            course.new.waiting }
+    {
+        match next_split(&self.branch) {
+            None => Step::Ends(Outcome::Open),
+            Some(at) => self.split(base, at, course),
+        }
+    }
+
+    /// Goes on with a refined branch to which the next round adds these facts.
+    fn go_on_with(&mut self, base: &Base, list: &[Fact], course: &mut Course) -> Step
+        requires here { IsAt base.now self.old course.old state.Open }
+        requires quiet { IsQuiet self.old.branch }
+        requires round { IsRoundOf base.now self.old.limits.depth (live_facts self.old)
+            (literals_on self.old.branch) list.now }
+        ensures steps { StepsTo base.now self.new course.new result }
+        ensures nearer { IsNearer (steps_left self.old course.old) (steps_left self.new course.new)
+            result }
+        ensures kept { IsKept base.now self.old course.old.waiting self.new
+            course.new.waiting }
+    {
+        rounding_laws();
+        let Some((next, rest)) = list.split_first() else {
+            return self.go_on_saturated(base, course);
+        };
+        if course.starts.len() as u64 >= self.limits.rounds {
+            return Step::Ends(answered(self.out_of_rounds(base, next, rest, course)));
+        }
+        self.make_round(base, list, course)
+    }
+
     /// Goes on with a refined branch.
     fn go_on_refined(&mut self, base: &Base, course: &mut Course) -> Step
         requires here { IsAt base.now self.old course.old state.Open }
@@ -200,9 +249,9 @@ impl Search {
         ensures kept { IsKept base.now self.old course.old.waiting self.new
             course.new.waiting }
     {
-        match next_split(&self.branch) {
-            None => Step::Ends(Outcome::Open),
-            Some(at) => self.split(base, at, course),
+        match self.next_round(base, course) {
+            Ok(list) => self.go_on_with(base, list.as_slice(), course),
+            Err(_) => Step::Ends(Outcome::Memory),
         }
     }
 

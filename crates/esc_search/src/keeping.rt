@@ -1,22 +1,17 @@
 //! What is kept of a search that stops.
 
-ghost use Rattle.std.specs.Prelude.{[], ◌≡◌, ◌≤◌, IfOk, IsTrue, Some, length};
-ghost use Rattle.esc_clause.specs.Refinement.{next_split};
+ghost use Rattle.std.specs.Prelude.{◌≡◌, IfOk, IsTrue};
 ghost use Rattle.esc_fact.specs.declared.base.Base.{Base as Bases};
-ghost use Rattle.esc_live.specs.View.{judge_on, literals_on};
+ghost use Rattle.esc_live.specs.View.{literals_on};
 ghost use Rattle.esc_outcome.specs.Causes.{is_endless, is_overflow};
 ghost use Rattle.esc_outcome.specs.JamLaws.{stuck_with};
-ghost use Rattle.esc_refine.specs.Refining.{IsQuiet, SplitsAt};
 ghost use Rattle.esc_search.specs.Proving.{ComesTo, IsOfArithmetic, IsStopped, branch_of};
 ghost use Rattle.esc_search.specs.Proving.{live_facts};
 ghost use Rattle.esc_search.specs.declared.search.Search.{Search as Searches};
 ghost use Rattle.esc_search.specs.SearchInside.{HaltsUnlessMemory, IsArithmeticStop, IsHalted};
-ghost use Rattle.esc_search.specs.SearchInside.{IsOpenHere, IsSearch};
 
-use crate::course::Course;
 use crate::outcome::Outcome;
 use crate::search::Search;
-use esc_clause::Occurrence;
 use esc_fact::{Base, Facts};
 use esc_outcome::{Branch, Stuck, stuck_of};
 use esc_simplex::Stop;
@@ -113,27 +108,6 @@ impl Search {
             Stop::Spill(jam) => answered(self.overflowed(base, Stop::Spill(jam))),
             Stop::Form(term) => answered(self.overflowed(base, Stop::Form(term))),
         }
-    }
-
-    /// What is told where there are as many splits as are allowed, and this would be the next.
-    pub(crate) fn out_of_splits(
-        &self,
-        base: &Base,
-        course: &Course,
-        at: Occurrence,
-    ) -> Result<Cause, AllocError>
-        requires search { IsSearch base.now self.now course.now }
-        requires here { IsOpenHere base.now self.now course.now.starts [] }
-        requires quiet { IsQuiet self.now.branch }
-        requires next { next_split (judge_on self.now.branch) self.now.branch.clauses ≡ Some at }
-        requires splits { SplitsAt self.now.branch (Some at) }
-        requires spent { self.now.limits.splits ≤ length self.now.splits }
-        ensures { IfOk result (λ cause. IsStopped base.now self.now cause) }
-    {
-        let _base = base;
-        let _course = course;
-        let branch = self.kept()?;
-        Ok(Cause::Splits(branch, at))
     }
 }
 

@@ -12,7 +12,10 @@ mod level;
 mod levels;
 mod open_split;
 mod outcome;
+mod round;
+mod rounding;
 mod search;
+mod spent;
 mod step;
 mod tally;
 

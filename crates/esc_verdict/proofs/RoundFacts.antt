@@ -1,11 +1,13 @@
 -- The facts of a round, behind those that it is of.
-use Rattle.std.proofs.Common.{◌≡◌, ℕ, ◌≤◌, List, ◌∷◌, ◌++◌, length, map, take, drop}
-use Rattle.std.proofs.Common.{sym, ap, subst, ◌∙◌, arith, append_assoc}
+use Rattle.std.proofs.Common.{◌≡◌, ℕ, ◌≤◌, List, [], ◌∷◌, ◌++◌, length, map, take, drop}
+use Rattle.std.proofs.Common.{refl, sym, ap, subst, ◌∙◌, arith, append_assoc}
 use Rattle.std.proofs.Common.{length-append}
-use Rattle.std.specs.List.{All}
+use Rattle.std.specs.List.{All, Contains}
 use Rattle.std.proofs.lemmas.List.{get_or_append_left, take-append-drop, take-map}
 use Rattle.std.proofs.Math.Seq.{take-append_seam}
 use Rattle.esc_term.specs.declared.formula.Item.{Item}
+use Rattle.esc_term.proofs.Members.{Contains-none}
+use Rattle.esc_egraph.specs.Graph.{Graph}
 use Rattle.esc_fact.specs.Depth.{Deep, deep}
 use Rattle.esc_fact.specs.Fact.{IsFact}
 use Rattle.esc_fact.specs.Legal.{IsLegal, first_facts}
@@ -14,9 +16,10 @@ use Rattle.esc_fact.specs.declared.fact.Fact.{Fact}
 use Rattle.esc_rounds.specs.Facts.{fact_of}
 use Rattle.esc_rounds.specs.Laws.{RoundsAreLegal, RoundsAreShallow}
 use Rattle.esc_rounds.specs.declared.draw.Draw.{Draw}
+use Rattle.esc_rounds.specs.declared.kept.Kept.{Kept}
 use Rattle.esc_rounds.specs.Due.{IsRound}
 use Rattle.esc_sharing.proofs.Lists.{All-append_left}
-use Rattle.esc_verdict.specs.RoundLaws.{RoundIsWithin, RoundMayFollow}
+use Rattle.esc_verdict.specs.RoundLaws.{EmptyRoundIsSaturated, RoundIsWithin, RoundMayFollow}
 use Rattle.esc_verdict.specs.Rounds.{IsRoundOf}
 
 -- ---- a front of a legal list
@@ -74,3 +77,20 @@ is_within law base depth facts items first rest shallow r =
     (behind base depth facts items first rest r) r.stands.standing r.stands.ready
     (subst (IsRound r.s r.live depth)
     (sym (parts base depth facts items first rest r)) r.round) shallow)
+
+-- ---- no facts
+
+none_drawn : (g : Graph) (formulas : List Kept) (ds : List Draw)
+    → [] ≡ map (fact_of g formulas) ds → ds ≡ []
+none_drawn g formulas [] e = refl
+none_drawn g formulas (d ∷ ds) e = absurd (cc)
+
+pub empty_is_saturated : EmptyRoundIsSaturated
+empty_is_saturated base depth facts items r = record {
+  s = r.s;
+  live = r.live;
+  stands = r.stands;
+  saturated = λ d due. Contains-none d
+      (subst (λ ds. Contains ds d) (none_drawn r.s.graph r.s.formulas r.drawn r.facts_are)
+      ((r.round.exact d).1 due));
+}

@@ -16,7 +16,7 @@ use Rattle.esc_outcome.specs.Grown.{Grown}
 use Rattle.esc_outcome.specs.GrownLaws.{with_fact}
 use Rattle.esc_outcome.specs.Tree.{path_formulas}
 use Rattle.esc_outcome.specs.declared.branch.Branch.{Branch}
-use Rattle.esc_verdict.specs.Rounds.{AreMatched, AreRounds, IsRoundOf}
+use Rattle.esc_verdict.specs.Rounds.{AreRounds, IsRoundOf}
 use Rattle.esc_verdict.specs.declared.cause.Cause.{Cause}
 use Rattle.esc_verdict.specs.declared.cause.Cause.TheVariants as cause
 use Rattle.esc_verdict.specs.declared.cause.RoundsMade.{RoundsMade}
@@ -38,7 +38,6 @@ pub record IsOutOfRounds (base : Base) (limits : Limits) (branch : Branch) (made
   pub least : IsLeast made.literals (play_of (formulas_of base made.live)) classes
   pub consistent : IsConsistent made.literals classes
   pub literals_are : AreLiteralsOf (formulas_of base made.live) made.literals
-  pub matched : AreMatched base made.live made.literals
   pub follow : AllFollow (formulas_of base made.live
       ++ path_formulas (formulas_of base branch.log) branch.splits branch.under) made.literals
 

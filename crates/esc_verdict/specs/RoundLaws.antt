@@ -9,7 +9,7 @@ use Rattle.esc_fact.specs.declared.fact.Fact.{Fact}
 use Rattle.esc_outcome.specs.Causes.{AllFollow, formulas_on}
 use Rattle.esc_outcome.specs.GrownLaws.{IsMadeOn}
 use Rattle.esc_outcome.specs.declared.branch.Branch.{Branch}
-use Rattle.esc_verdict.specs.Rounds.{AreMatched, AreRounds, IsMatched, IsRoundOf}
+use Rattle.esc_verdict.specs.Rounds.{AreMatched, AreRounds, IsMatched, IsRoundOf, IsSaturated}
 use Rattle.esc_verdict.specs.declared.cause.Start.{Start}
 
 -- ---- behind the facts that it is of
@@ -26,6 +26,11 @@ RoundIsWithin = (base : Base) (depth : ℕ) (facts : List Fact) (items : List It
     (first rest : List Fact) → All (λ d. d.depth ≤ depth) (deep base facts)
     → IsRoundOf base depth facts items (first ++ rest)
     → All (λ d. d.depth ≤ depth) (deep base (facts ++ first))
+
+-- where the round has no facts, nothing is due
+abbrev pub EmptyRoundIsSaturated : Type 0
+EmptyRoundIsSaturated = (base : Base) (depth : ℕ) (facts : List Fact) (items : List Item)
+    → IsRoundOf base depth facts items [] → IsSaturated base depth facts items
 
 -- ---- what makes them
 

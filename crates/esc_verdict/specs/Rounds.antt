@@ -8,6 +8,7 @@ use Rattle.esc_term.specs.declared.term.Term.{Term}
 use Rattle.esc_term.specs.Refuted.{Follows}
 use Rattle.esc_cover.specs.Arithmetic.{play_of}
 use Rattle.esc_cover.specs.Classes.{active_terms}
+use Rattle.esc_cover.specs.Counterexample.{AreLiteralsOf}
 use Rattle.esc_cover.specs.Least.{IsLeast}
 use Rattle.esc_fact.specs.Fact.{formulas_of}
 use Rattle.esc_fact.specs.Legal.{first_facts}
@@ -17,7 +18,7 @@ use Rattle.esc_node_terms.specs.Nodes.{classes_in}
 use Rattle.esc_outcome.specs.Causes.{stated}
 use Rattle.esc_outcome.specs.Grown.{makers_of}
 use Rattle.esc_rounds.specs.Branch.{IsStanding}
-use Rattle.esc_rounds.specs.Due.{IsRound}
+use Rattle.esc_rounds.specs.Due.{IsRound, Saturated}
 use Rattle.esc_rounds.specs.Facts.{fact_of}
 use Rattle.esc_rounds.specs.Standing.{IsReady, Standing}
 use Rattle.esc_rounds.specs.declared.draw.Draw.{Draw}
@@ -25,12 +26,13 @@ use Rattle.esc_verdict.specs.declared.cause.Start.{Start}
 
 -- ---- rounds
 
--- The facts and the literals stand so: the classes are the finest that these literals ask for, and
--- the draws are those of the facts.
+-- The facts and the literals stand so: the literals are those of the facts, the classes are the
+-- finest that these literals ask for, and the draws are those of the facts.
 pub record StandsSo (base : Base) (facts : List Fact) (items : List Item) (s : Standing)
     (live : List Draw) : Type 0 where
   pub standing : IsStanding base facts items s live
   pub ready : IsReady s live
+  pub literals_are : AreLiteralsOf (formulas_of base facts) items
   pub least : IsLeast items (play_of (formulas_of base facts)) (classes_in s.graph)
 
 -- the list is that of the round of these facts and literals, within the limit of depth
@@ -43,9 +45,13 @@ pub record IsRoundOf (base : Base) (depth : ℕ) (facts : List Fact) (items : Li
   pub round : IsRound s live depth drawn
   pub facts_are : list ≡ map (fact_of s.graph s.formulas) drawn
 
--- a round of these facts and literals adds nothing
-abbrev pub IsSaturated : Base → ℕ → List Fact → List Item → Type 0
-IsSaturated base depth facts items = IsRoundOf base depth facts items []
+-- nothing is due where these facts and literals stand: a round adds none
+pub record IsSaturated (base : Base) (depth : ℕ) (facts : List Fact) (items : List Item) :
+    Type 0 where
+  pub s : Standing
+  pub live : List Draw
+  pub stands : StandsSo base facts items s live
+  pub saturated : Saturated s live depth
 
 -- Behind these facts stand, for each start, those that the round of the facts before them and of
 -- the first literals gave, and no round gave none.

@@ -3,8 +3,8 @@
 
 ghost use Rattle.esc_verdict.specs.Laws.{InvalidIsNotRefuted, PlainIsNotRefuted};
 ghost use Rattle.esc_verdict.specs.Laws.{PlainRunsOutOfSplits};
-ghost use Rattle.esc_verdict.specs.RoundLaws.{LogMayGrow, MatchedByMore, MatchedGrows};
-ghost use Rattle.esc_verdict.specs.RoundLaws.{MatchedIsMade};
+ghost use Rattle.esc_verdict.specs.RoundLaws.{EmptyRoundIsSaturated, LogMayGrow, MatchedByMore};
+ghost use Rattle.esc_verdict.specs.RoundLaws.{MatchedGrows, MatchedIsMade};
 ghost use Rattle.esc_verdict.specs.RoundLaws.{RoundIsMatched, RoundIsWithin, RoundMayFollow};
 ghost use Rattle.esc_verdict.specs.RoundLaws.{RoundsGrow, RoundsStay};
 
@@ -27,8 +27,8 @@ pub fn verdict_laws()
     round_laws();
 }
 
-/// The first facts of a round may follow those that it is of, and lie within the limit there. Each
-/// was matched by these, and so it stays with more facts and literals; it is made on a branch where
+/// The first facts of a round may follow those that it is of, and lie within the limit there; where
+/// it has none, nothing is due. Each was matched by these, and so it stays with more facts and literals; it is made on a branch where
 /// the literals follow. Rounds that were made stay so with more literals, and the next comes behind
 /// them. A legal log may grow by a fact that may follow some of its facts.
 pub fn rounding_laws()
@@ -41,6 +41,7 @@ pub fn rounding_laws()
     ensures stay { RoundsStay }
     ensures after { RoundsGrow }
     ensures log { LogMayGrow }
+    ensures saturated { EmptyRoundIsSaturated }
 {
     model_laws();
     round_laws();

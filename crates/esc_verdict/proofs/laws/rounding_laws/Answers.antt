@@ -3,7 +3,7 @@ use Rattle.esc_verdict.proofs.GrowingLog.{log_may_grow}
 use Rattle.esc_verdict.proofs.MatchedFacts.{matched_by_more, matched_grows, matched_is_made}
 use Rattle.esc_verdict.proofs.MatchedFacts.{round_is_matched}
 use Rattle.esc_verdict.proofs.RoundAfterRound.{rounds_grow, rounds_stay}
-use Rattle.esc_verdict.proofs.RoundFacts.{is_within, may_follow}
+use Rattle.esc_verdict.proofs.RoundFacts.{empty_is_saturated, is_within, may_follow}
 
 pub returns : goal.returns
 returns c = record {
@@ -17,4 +17,5 @@ returns c = record {
   stay = rounds_stay;
   after = rounds_grow;
   log = log_may_grow;
+  saturated = empty_is_saturated;
 }

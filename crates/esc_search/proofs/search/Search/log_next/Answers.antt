@@ -12,7 +12,7 @@ pub formula_of-requires : goal.formula_of-requires
 formula_of-requires c = record {
   closed = c.requires.here.0.closed;
   is_fact = next_is_fact c.args.base.now c.args.self.now c.args.course.now c.args.fact
-      c.args.coming.now c.requires.here.0 c.requires.here.1 c.requires.new c.requires.few;
+      c.args.coming.now c.requires.here.0 c.requires.here.1 c.requires.new;
 }
 
 pub log-requires : goal.log-requires
@@ -20,7 +20,7 @@ log-requires c = record {
   closed = c.fact_laws.ensures.closed c.args.base.now c.args.fact c.in_ok-formula.formula
       c.requires.here.0.closed
       (next_is_fact c.args.base.now c.args.self.now c.args.course.now c.args.fact
-      c.args.coming.now c.requires.here.0 c.requires.here.1 c.requires.new c.requires.few)
+      c.args.coming.now c.requires.here.0 c.requires.here.1 c.requires.new)
       c.in_ok-formula.ensures;
 }
 
