@@ -16,6 +16,7 @@ mod LiveFacts
 mod LogNext
 mod MadeFacts
 mod Nearer
+mod NextRound
 mod Reaching
 mod ReadyAlike
 mod Refined

@@ -4,7 +4,7 @@ use Rattle.std.proofs.Common.{None, length, take, get_or}
 use Rattle.std.proofs.Common.{append-nil, append_assoc, refl, sym, ap, ap₂, subst, ◌∙◌, inl, inr}
 use Rattle.std.proofs.Common.{arith}
 use Rattle.std.specs.Prelude.{IsSome, slice_get}
-use Rattle.std.specs.List.{All, Contains, cons_option, filter_map, range_with_len}
+use Rattle.std.specs.List.{All, AllZip, Contains, cons_option, filter_map, range_with_len}
 use Rattle.std.specs.Option.{option_and_then}
 use Rattle.std.proofs.lemmas.List.{length_push, take_more}
 use Rattle.std.proofs.lemmas.List.Elements.{All-append, All-contains, All-cons, All-head, All-nil}
@@ -87,6 +87,20 @@ module _ {X Y : Type 0} (h : X → Option Y) where
       one None some e later i = absurd (cc)
       one (Some y) some e later zero = sym e
       one (Some y) some e later (suc i) = later i
+
+  -- each element stands beside what it is read as
+  pub AllZip-filter_map : (xs : List X) → All (λ x. IsSome (h x)) xs
+      → AllZip (λ x y. h x ≡ Some y) xs (filter_map h xs)
+  AllZip-filter_map [] all = tt
+  AllZip-filter_map (x ∷ xs) all =
+      one (h x) refl (All-head (λ y. IsSome (h y)) x xs all)
+      (AllZip-filter_map xs (All-tail (λ y. IsSome (h y)) x xs all))
+    where
+      one : (o : Option Y) → h x ≡ o → IsSome o
+          → AllZip (λ z y. h z ≡ Some y) xs (filter_map h xs)
+          → AllZip (λ z y. h z ≡ Some y) (x ∷ xs) (cons_option o (filter_map h xs))
+      one None is some rest = absurd (cc)
+      one (Some y) is some rest = (is, rest)
 
   -- what stands at some places, read before or behind
   pub filter_map-read : (xs : List X) → All (λ x. IsSome (h x)) xs → (ks : List ℕ)
