@@ -10,13 +10,11 @@ use Rattle.esc_fact.specs.Base.{formulas_in}
 use Rattle.esc_form.specs.declared.command.Command.{Command}
 use Rattle.esc_form.specs.declared.command.Kind.{Kind}
 use Rattle.esc_form.specs.declared.command.Kind.TheVariants.{Goal}
-use Rattle.esc_outcome.specs.Causes.{IsCause, IsStuck}
-use Rattle.esc_outcome.specs.PlainLaws.{PlainIsNotRefuted, PlainRunsOutOfSplits}
-use Rattle.esc_outcome.specs.PlainLaws.{PlainValidIsRefuted}
+use Rattle.esc_fact.specs.declared.fact.Fact.{Fact}
+use Rattle.esc_outcome.specs.Causes.{IsStuck}
+use Rattle.esc_outcome.specs.PlainLaws.{PlainIsNotRefuted, PlainValidIsRefuted}
 use Rattle.esc_outcome.specs.TreeLaws.{occurrences_in}
 use Rattle.esc_outcome.specs.declared.branch.Branch.{Branch}
-use Rattle.esc_outcome.specs.declared.branch.Cause.{Cause}
-use Rattle.esc_outcome.specs.declared.branch.Cause.TheVariants as cause
 use Rattle.esc_options.specs.declared.options.Limits.{Limits}
 use Rattle.esc_outcome.specs.declared.stuck.Stuck.{Stuck}
 use Rattle.esc_report.specs.Goals.{IsFreeGoal, base_of}
@@ -24,6 +22,11 @@ use Rattle.esc_report.specs.Laws.{FreeGoalIsPlainAndFree, SupportedIsPlain}
 use Rattle.esc_report.specs.Supported.{is_supported}
 use Rattle.esc_report.specs.declared.report.Report.{Report}
 use Rattle.esc_report.specs.declared.report.Report.TheVariants as report
+use Rattle.esc_verdict.specs.Causes.{IsCause, IsOutOfFacts, IsOutOfRounds}
+use Rattle.esc_verdict.specs.Laws.{PlainRunsOutOfSplits}
+use Rattle.esc_verdict.specs.declared.cause.Cause.{Cause}
+use Rattle.esc_verdict.specs.declared.cause.Cause.TheVariants as cause
+use Rattle.esc_verdict.specs.declared.cause.RoundsMade.{RoundsMade}
 use Rattle.esc_answers.specs.Answers.{Answers, AnswersGoal, AnswersKind, GoalWhere}
 use Rattle.esc_answers.specs.Laws.{AnswersAreSharp, AnswersAreSound, IsSharpOf, IsShortOfSplits}
 use Rattle.esc_answers.specs.Laws.{IsSoundOf}
@@ -85,6 +88,38 @@ module _ (law : PlainRunsOutOfSplits) (free : FreeGoalIsPlainAndFree) (limits : 
   still_stuck branch stuck h =
       record { grown = h.grown; jam = h.jam; literals = h.literals; told = h.told }
 
+  -- neither do rounds
+  still_out_of_rounds : (branch : Branch) (made : RoundsMade)
+      → IsOutOfRounds (base_of fs f) limits branch made
+      → IsOutOfRounds (base_of fs f) with_splits branch made
+  still_out_of_rounds branch made h = record {
+    grown = h.grown;
+    within = h.within;
+    logged = h.logged;
+    spent = h.spent;
+    rounds = h.rounds;
+    rest = h.rest;
+    next = h.next;
+    classes = h.classes;
+    least = h.least;
+    consistent = h.consistent;
+    literals_are = h.literals_are;
+    matched = h.matched;
+    follow = h.follow;
+  }
+
+  -- nor facts
+  still_out_of_facts : (branch : Branch) (next : Fact)
+      → IsOutOfFacts (base_of fs f) limits branch next
+      → IsOutOfFacts (base_of fs f) with_splits branch next
+  still_out_of_facts branch next h = record {
+    legal = h.legal;
+    spent = h.spent;
+    next_new = h.next_new;
+    next_legal = h.next_legal;
+    grown = h.grown;
+  }
+
   short_of_splits : (why : Cause) → IsCause (base_of fs f) limits why
       → IsShortOfSplits fs f limits why
   short_of_splits (cause.Splits branch next) h =
@@ -95,6 +130,12 @@ module _ (law : PlainRunsOutOfSplits) (free : FreeGoalIsPlainAndFree) (limits : 
   short_of_splits (cause.Pivots branch stuck) h =
       not_below most (law (base_of fs f) with_splits (cause.Pivots branch stuck) (free fs f is)
       (still_stuck branch stuck h.0, h.1))
+  short_of_splits (cause.Rounds branch made) h =
+      not_below most (law (base_of fs f) with_splits (cause.Rounds branch made) (free fs f is)
+      (still_out_of_rounds branch made h))
+  short_of_splits (cause.Facts branch next) h =
+      not_below most (law (base_of fs f) with_splits (cause.Facts branch next) (free fs f is)
+      (still_out_of_facts branch next h))
 
 -- the goal is of a form that is answered
 free_supported : (fs : List Formula) (f : Formula) → IsFreeGoal fs f → IsTrue (is_supported f)

@@ -1,5 +1,6 @@
 -- Which report may answer a command, and the state then.
-use Rattle.std.specs.Prelude.{◌≡◌, ◌⊎◌, ℕ, ◌+◌, Bool, true, false, List, [], ◌∷◌, Option, Some, None}
+use Rattle.std.specs.Prelude.{◌≡◌, ◌⊎◌, ℕ, ◌+◌, Bool, true, false, List, [], ◌∷◌, Option, Some}
+use Rattle.std.specs.Prelude.{None}
 use Rattle.std.specs.List.{list_all}
 use Rattle.esc_term.specs.declared.formula.Formula.{Formula}
 use Rattle.esc_term.specs.declared.term.Sym.{Sym}
@@ -7,7 +8,6 @@ use Rattle.esc_fact.specs.declared.base.Base.{Base}
 use Rattle.esc_form.specs.declared.command.Command.{Command}
 use Rattle.esc_form.specs.declared.command.Kind.{Kind}
 use Rattle.esc_form.specs.declared.command.Kind.TheVariants as kind
-use Rattle.esc_outcome.specs.Causes.{IsCause}
 use Rattle.esc_outcome.specs.Found.{IsInvalid, IsValid}
 use Rattle.esc_options.specs.declared.options.Limits.{Limits}
 use Rattle.esc_report.specs.Goals.{base_of}
@@ -16,6 +16,7 @@ use Rattle.esc_report.specs.declared.report.Refusal.TheVariants.{NothingToPop, R
 use Rattle.esc_report.specs.declared.report.Refusal.TheVariants.{Unsupported}
 use Rattle.esc_report.specs.declared.report.Report.{Report}
 use Rattle.esc_report.specs.declared.report.Report.TheVariants as report
+use Rattle.esc_verdict.specs.Causes.{IsCause}
 use Rattle.esc_answers.specs.State.{AreRules, IsDefined, IsPopped, State, with_batch, with_goal}
 
 -- ---- goals

@@ -7,13 +7,13 @@ use Rattle.esc_fact.specs.Base.{formulas_in}
 use Rattle.esc_form.specs.declared.command.Command.{Command}
 use Rattle.esc_form.specs.declared.command.Kind.TheVariants.{Goal}
 use Rattle.esc_outcome.specs.TreeLaws.{occurrences_in}
-use Rattle.esc_outcome.specs.declared.branch.Cause.{Cause}
-use Rattle.esc_outcome.specs.declared.branch.Cause.TheVariants as cause
 use Rattle.esc_options.specs.declared.options.Limits.{Limits}
 use Rattle.esc_report.specs.Goals.{IsFreeGoal, base_of}
 use Rattle.esc_report.specs.Supported.{is_supported}
 use Rattle.esc_report.specs.declared.report.Report.{Report}
 use Rattle.esc_report.specs.declared.report.Report.TheVariants as report
+use Rattle.esc_verdict.specs.declared.cause.Cause.{Cause}
+use Rattle.esc_verdict.specs.declared.cause.Cause.TheVariants as cause
 use Rattle.esc_answers.specs.Answers.{Answers}
 use Rattle.esc_answers.specs.State.{State}
 
@@ -54,6 +54,8 @@ IsShortOfSplits assumed goal limits (cause.Splits branch next) =
     limits.splits < 2 ^ occurrences_in (formulas_in (base_of assumed goal))
 IsShortOfSplits assumed goal limits (cause.Overflow branch stuck) = ⊥
 IsShortOfSplits assumed goal limits (cause.Pivots branch stuck) = ⊥
+IsShortOfSplits assumed goal limits (cause.Rounds branch made) = ⊥
+IsShortOfSplits assumed goal limits (cause.Facts branch next) = ⊥
 
 -- it is said to be valid where its negation is refuted with what is assumed, and to be invalid where
 -- it is not, unless memory or splits are wanting

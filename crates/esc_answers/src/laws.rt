@@ -4,6 +4,7 @@ ghost use Rattle.esc_answers.specs.Laws.{AnswersAreSharp, AnswersAreSound, State
 
 use esc_outcome::plain_laws;
 use esc_report::goal_laws;
+use esc_verdict::verdict_laws;
 
 /// What is assumed is of a form that is answered. A goal that is answered is valid only where its
 /// negation is refuted with what is assumed. Where both have no arithmetic but small numerals, it
@@ -16,4 +17,5 @@ pub fn answer_laws()
 {
     goal_laws();
     plain_laws();
+    verdict_laws();
 }

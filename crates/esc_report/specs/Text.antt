@@ -8,9 +8,10 @@ use Rattle.esc_read.specs.declared.fault.FormKind.TheVariants.{WrongCount, NotAF
 use Rattle.esc_read.specs.declared.fault.FormKind.TheVariants.{NumberTooLarge, ReservedName}
 use Rattle.esc_read.specs.declared.fault.FormKind.TheVariants.{DuplicateVariable}
 use Rattle.esc_read.specs.declared.fault.FormKind.TheVariants.{MisplacedPattern, EmptyList}
-use Rattle.esc_outcome.specs.declared.branch.Cause.{Cause}
-use Rattle.esc_outcome.specs.declared.branch.Cause.TheVariants.{Overflow, Pivots, Splits}
 use Rattle.esc_options.specs.declared.options.Show.{Show}
+use Rattle.esc_verdict.specs.declared.cause.Cause.{Cause}
+use Rattle.esc_verdict.specs.declared.cause.Cause.TheVariants.{Overflow, Pivots, Splits}
+use Rattle.esc_verdict.specs.declared.cause.Cause.TheVariants.{Rounds, Facts}
 use Rattle.esc_report.specs.FoundText.{found_text}
 use Rattle.esc_report.specs.LogText.{log_text}
 use Rattle.esc_report.specs.declared.report.Refusal.{Refusal}
@@ -40,6 +41,8 @@ abbrev pub cause_text : Cause → List ℕ
 cause_text (Overflow branch stuck) = codes "arithmetic overflow"
 cause_text (Pivots branch stuck) = codes "pivot limit"
 cause_text (Splits branch next) = codes "split limit"
+cause_text (Rounds branch made) = codes "round limit"
+cause_text (Facts branch next) = codes "fact limit"
 
 unfoldable pub cause_line : Cause → List ℕ
 cause_line cause = codes ": Unknown (" ++ (cause_text cause ++ codes ").\n")

@@ -16,10 +16,11 @@ use esc_fact::Fact;
 use esc_io::{Failed, Sink, put_all};
 use esc_names::Names;
 use esc_options::Show;
-use esc_outcome::{Cause, Counterexample};
+use esc_outcome::Counterexample;
 use esc_print::put_number;
 use esc_read::FormKind;
 use esc_term::Formula;
+use esc_verdict::Cause;
 
 // ---- goals that are valid
 
@@ -97,6 +98,8 @@ fn cause_text(cause: &Cause) -> &'static [u8]
         Cause::Overflow(..) => b"arithmetic overflow",
         Cause::Pivots(..) => b"pivot limit",
         Cause::Splits(..) => b"split limit",
+        Cause::Rounds(..) => b"round limit",
+        Cause::Facts(..) => b"fact limit",
     }
 }
 

@@ -1,9 +1,10 @@
 //! What the prover answers to a command.
 
 use esc_fact::Facts;
-use esc_outcome::{Cause, Counterexample};
+use esc_outcome::Counterexample;
 use esc_read::FormKind;
 use esc_term::Formulas;
+use esc_verdict::Cause;
 
 /// Why a command is not carried out.
 #[derive(Clone, Copy, Debug, PartialEq, Eq)]

@@ -5,13 +5,13 @@ use Rattle.esc_fact.specs.Fact.{formulas_of}
 use Rattle.esc_fact.specs.declared.base.Base.{Base}
 use Rattle.esc_live.specs.Promises.{IsGiven}
 use Rattle.esc_options.specs.declared.options.Limits.{Limits}
-use Rattle.esc_outcome.specs.Causes.{IsCause}
-use Rattle.esc_outcome.specs.declared.branch.Cause.{Cause}
 use Rattle.esc_search.specs.Levels.{GoesBackTo, IsBegunAt}
 use Rattle.esc_search.specs.Proving.{IsReady}
 use Rattle.esc_search.specs.declared.level.Level.{Level}
 use Rattle.esc_search.specs.declared.outcome.Outcome.TheVariants as outcome
 use Rattle.esc_search.specs.declared.search.Search.{Search}
+use Rattle.esc_verdict.specs.Causes.{IsCause}
+use Rattle.esc_verdict.specs.declared.cause.Cause.{Cause}
 use Rattle.esc_session.specs.Back.{IsAgain}
 use Rattle.esc_session.specs.Between.{HasAsserted, assuming}
 use Rattle.esc_session.specs.PushingInside.{GivesStanding, RestEnds}

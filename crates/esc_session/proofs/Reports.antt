@@ -1,5 +1,6 @@
 -- The reports that a search leads to.
-use Rattle.std.proofs.Common.{◌≡◌, ℕ, suc, List, [], ◌∷◌, Some, length, refl, sym, ap, subst, subst₂, ◌∙◌}
+use Rattle.std.proofs.Common.{◌≡◌, ℕ, suc, List, [], ◌∷◌, Some, length, refl, sym, ap, subst}
+use Rattle.std.proofs.Common.{subst₂, ◌∙◌}
 use Rattle.std.specs.List.{All, AllZip, Contains, cons_option}
 use Rattle.std.proofs.lemmas.List.Elements.{All-contains_itself}
 use Rattle.esc_term.specs.declared.formula.Formula.{Formula}
@@ -21,11 +22,11 @@ use Rattle.esc_outcome.specs.FoundLaws.{RefutedIsValid}
 use Rattle.esc_outcome.specs.GrownLaws.{FirstIsLegal}
 use Rattle.esc_outcome.proofs.PlainBases.{formulas_first}
 use Rattle.esc_sharing.proofs.Lists.{All-append_left}
-use Rattle.esc_outcome.specs.declared.branch.Cause.{Cause}
 use Rattle.esc_outcome.specs.declared.counterexample.Counterexample.{Counterexample}
 use Rattle.esc_report.specs.declared.report.Report.TheVariants as report
 use Rattle.esc_search.specs.Proving.{IsLeftOpen, IsRefutedLog, IsStopped, live_facts}
 use Rattle.esc_search.specs.declared.search.Search.{Search}
+use Rattle.esc_verdict.specs.declared.cause.Cause.{Cause}
 use Rattle.esc_session.specs.ReportingInside.{AnswersBase}
 
 -- ---- valid goals

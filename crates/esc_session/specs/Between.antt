@@ -6,9 +6,9 @@ use Rattle.esc_fact.specs.Legal.{IsClosedBase}
 use Rattle.esc_fact.specs.declared.base.Base.{Base}
 use Rattle.esc_options.specs.declared.options.Limits.{Limits}
 use Rattle.esc_live.specs.Promises.{IsGiven}
-use Rattle.esc_outcome.specs.Causes.{IsCause}
 use Rattle.esc_search.specs.Proving.{IsOfArithmetic, IsReady}
 use Rattle.esc_search.specs.declared.search.Search.{Search}
+use Rattle.esc_verdict.specs.Causes.{IsCause}
 use Rattle.esc_session.specs.Back.{GoesThrough}
 use Rattle.esc_session.specs.View.{is_open, newest_first}
 use Rattle.esc_session.specs.declared.batch.Batch.{Batch}

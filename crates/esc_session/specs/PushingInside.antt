@@ -6,12 +6,12 @@ use Rattle.esc_term.specs.declared.term.Sym.{Sym}
 use Rattle.esc_term.specs.Refuted.{Refuted}
 use Rattle.esc_fact.specs.Fact.{formulas_of}
 use Rattle.esc_fact.specs.declared.base.Base.{Base}
-use Rattle.esc_outcome.specs.Causes.{IsCause}
 use Rattle.esc_search.specs.Levels.{KeepsLevels}
 use Rattle.esc_search.specs.Proving.{IsOfArithmetic, IsReady}
 use Rattle.esc_search.specs.declared.outcome.Outcome.{Outcome}
 use Rattle.esc_search.specs.declared.outcome.Outcome.TheVariants as outcome
 use Rattle.esc_search.specs.declared.search.Search.{Search}
+use Rattle.esc_verdict.specs.Causes.{IsCause}
 use Rattle.esc_session.specs.Back.{IsAgain}
 use Rattle.esc_session.specs.Between.{StandsBy}
 use Rattle.esc_session.specs.declared.batch.Standing.{Standing}

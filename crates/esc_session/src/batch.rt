@@ -1,8 +1,8 @@
 //! What was assumed together.
 
-use esc_outcome::Cause;
 use esc_search::Level;
 use esc_term::Sym;
+use esc_verdict::Cause;
 use sqlite_items::Items;
 
 /// How a batch stands.

@@ -95,6 +95,9 @@ impl Desk {
     {
         let report = self.answer(sexp);
         self.all_proved = self.all_proved && is_proved_report(&report);
-        put_report(&report, &self.names, self.options.show, sink)
+        let put = put_report(&report, &self.names, self.options.show, sink);
+        // in a call, so that the many forms of reports play no part here
+        drop(report);
+        put
     }
 }

@@ -6,8 +6,9 @@ pub returns : goal.returns
 returns c =
     let goals = c.goal_laws.ensures in
     let plain = c.plain_laws.ensures in
+    let verdict = c.verdict_laws.ensures in
     record {
       supported = states_are_supported;
       sound = answers_are_sound plain.valid goals.plain;
-      sharp = answers_are_sharp plain.valid plain.not_refuted plain.splits goals.free;
+      sharp = answers_are_sharp plain.valid plain.not_refuted verdict.splits goals.free;
     }
