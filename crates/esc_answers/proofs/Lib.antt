@@ -1,2 +1,1 @@
-mod Assuming
 mod Told

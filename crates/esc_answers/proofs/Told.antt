@@ -1,66 +1,61 @@
 -- What is told of a goal is so.
-use Rattle.std.proofs.Common.{◌≡◌, ◌<◌, ◌^◌, ℕ, ◌+◌, Bool, true, List, [], ◌∷◌, sym, subst}
-use Rattle.std.proofs.Common.{◌∙◌, arith}
+use Rattle.std.proofs.Common.{◌≡◌, ◌<◌, ◌^◌, ℕ, ◌+◌, List, subst, arith}
 use Rattle.std.specs.Prelude.{IsTrue}
 use Rattle.std.specs.List.{list_all}
-use Rattle.std.proofs.lemmas.List.Folds.{list_all-append}
 use Rattle.esc_term.specs.declared.formula.Formula.{Formula}
-use Rattle.esc_cover.proofs.TestLemmas.{and_left, and_right}
 use Rattle.esc_fact.specs.Base.{formulas_in}
 use Rattle.esc_form.specs.declared.command.Command.{Command}
 use Rattle.esc_form.specs.declared.command.Kind.{Kind}
 use Rattle.esc_form.specs.declared.command.Kind.TheVariants.{Goal}
 use Rattle.esc_fact.specs.declared.fact.Fact.{Fact}
 use Rattle.esc_outcome.specs.Causes.{IsStuck}
-use Rattle.esc_outcome.specs.PlainLaws.{PlainIsNotRefuted, PlainValidIsRefuted}
+use Rattle.esc_outcome.specs.PlainLaws.{PlainValidIsRefuted}
 use Rattle.esc_outcome.specs.TreeLaws.{occurrences_in}
 use Rattle.esc_outcome.specs.declared.branch.Branch.{Branch}
 use Rattle.esc_options.specs.declared.options.Limits.{Limits}
 use Rattle.esc_outcome.specs.declared.stuck.Stuck.{Stuck}
 use Rattle.esc_report.specs.Goals.{IsFreeGoal, base_of}
-use Rattle.esc_report.specs.Laws.{FreeGoalIsPlainAndFree, SupportedIsPlain}
-use Rattle.esc_report.specs.Supported.{is_supported}
+use Rattle.esc_report.specs.Laws.{FreeGoalIsPlainAndFree, PlainGoalIsPlain}
+use Rattle.esc_report.specs.PlainFormulas.{is_plain_formula}
 use Rattle.esc_report.specs.declared.report.Report.{Report}
 use Rattle.esc_report.specs.declared.report.Report.TheVariants as report
 use Rattle.esc_verdict.specs.Causes.{IsCause, IsOutOfFacts, IsOutOfRounds}
-use Rattle.esc_verdict.specs.Laws.{PlainRunsOutOfSplits}
+use Rattle.esc_verdict.specs.Laws.{PlainIsNotRefuted, PlainRunsOutOfSplits}
 use Rattle.esc_verdict.specs.declared.cause.Cause.{Cause}
 use Rattle.esc_verdict.specs.declared.cause.Cause.TheVariants as cause
 use Rattle.esc_verdict.specs.declared.cause.RoundsMade.{RoundsMade}
-use Rattle.esc_answers.specs.Answers.{Answers, AnswersGoal, AnswersKind, GoalWhere}
+use Rattle.esc_answers.specs.Answers.{Answers, AnswersGoal, AnswersKind}
 use Rattle.esc_answers.specs.Laws.{AnswersAreSharp, AnswersAreSound, IsSharpOf, IsShortOfSplits}
 use Rattle.esc_answers.specs.Laws.{IsSoundOf}
 use Rattle.esc_answers.specs.State.{State}
 
--- a command that is a goal, and answered, is answered as one
+-- a command that is a goal is answered as one
 goal_answered : (s t : State) (command : Command) (limits : Limits) (r : Report) (f : Formula)
-    → Answers s command limits r t → command.kind ≡ Goal f → IsTrue (is_supported f)
+    → Answers s command limits r t → command.kind ≡ Goal f
     → AnswersGoal limits (base_of s.assumed f) (s.goals + 1) command.place r
-goal_answered s t command limits r f answers is supported =
-    let here : GoalWhere (is_supported f) limits s command.place f r t =
+goal_answered s t command limits r f answers is =
+    let here : AnswersKind limits s command.place (Goal f) r t =
     subst (λ (k : Kind). AnswersKind limits s command.place k r t) is answers in
-    let counted : GoalWhere true limits s command.place f r t =
-    subst (λ (b : Bool). GoalWhere b limits s command.place f r t) supported here in
-    counted.0
+    here.0
 
--- ---- goals that are answered
+-- ---- plain goals
 
-module _ (law : PlainValidIsRefuted) (plain : SupportedIsPlain) where
+module _ (law : PlainValidIsRefuted) (plain : PlainGoalIsPlain) where
   sound_goal : (limits : Limits) (fs : List Formula) (f : Formula) (number place : ℕ) (r : Report)
-      → AnswersGoal limits (base_of fs f) number place r → IsTrue (list_all is_supported fs)
-      → IsTrue (is_supported f) → IsSoundOf fs f r
-  sound_goal limits fs f number place (report.Valid goal log formulas) h assumed supported =
-      law (base_of fs f) log formulas (plain fs f assumed supported) h.1
-  sound_goal limits fs f number place (report.Invalid goal found) h assumed supported = tt
-  sound_goal limits fs f number place (report.Unknown goal why) h assumed supported = tt
-  sound_goal limits fs f number place (report.Memory goal at) h assumed supported = tt
-  sound_goal limits fs f number place (report.Refused at why) h assumed supported = tt
-  sound_goal limits fs f number place report.Done h assumed supported = tt
+      → AnswersGoal limits (base_of fs f) number place r → IsTrue (list_all is_plain_formula fs)
+      → IsTrue (is_plain_formula f) → IsSoundOf fs f r
+  sound_goal limits fs f number place (report.Valid goal log formulas) h assumed is_plain =
+      law (base_of fs f) log formulas (plain fs f assumed is_plain) h.1
+  sound_goal limits fs f number place (report.Invalid goal found) h assumed is_plain = tt
+  sound_goal limits fs f number place (report.Unknown goal why) h assumed is_plain = tt
+  sound_goal limits fs f number place (report.Memory goal at) h assumed is_plain = tt
+  sound_goal limits fs f number place (report.Refused at why) h assumed is_plain = tt
+  sound_goal limits fs f number place report.Done h assumed is_plain = tt
 
   pub answers_are_sound : AnswersAreSound
-  answers_are_sound s t command limits r f answers is assumed supported =
+  answers_are_sound s t command limits r f answers is assumed is_plain =
       sound_goal limits s.assumed f (s.goals + 1) command.place r
-      (goal_answered s t command limits r f answers is supported) assumed supported
+      (goal_answered s t command limits r f answers is) assumed is_plain
 
 -- ---- goals without arithmetic
 
@@ -137,12 +132,6 @@ module _ (law : PlainRunsOutOfSplits) (free : FreeGoalIsPlainAndFree) (limits : 
       not_below most (law (base_of fs f) with_splits (cause.Facts branch next) (free fs f is)
       (still_out_of_facts branch next h))
 
--- the goal is of a form that is answered
-free_supported : (fs : List Formula) (f : Formula) → IsFreeGoal fs f → IsTrue (is_supported f)
-free_supported fs f is =
-    and_left (is_supported f) true (and_right (list_all is_supported fs) _
-    (sym (list_all-append is_supported fs (f ∷ [])) ∙ is.supported))
-
 module _ (valid : PlainValidIsRefuted) (not_refuted : PlainIsNotRefuted)
     (splits : PlainRunsOutOfSplits) (free : FreeGoalIsPlainAndFree) where
   sharp_goal : (limits : Limits) (fs : List Formula) (f : Formula) (number place : ℕ)
@@ -161,4 +150,4 @@ module _ (valid : PlainValidIsRefuted) (not_refuted : PlainIsNotRefuted)
   pub answers_are_sharp : AnswersAreSharp
   answers_are_sharp s t command limits r f answers is_goal is =
       sharp_goal limits s.assumed f (s.goals + 1) command.place r
-      (goal_answered s t command limits r f answers is_goal (free_supported s.assumed f is)) is
+      (goal_answered s t command limits r f answers is_goal) is

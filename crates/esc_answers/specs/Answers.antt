@@ -1,22 +1,19 @@
 -- Which report may answer a command, and the state then.
-use Rattle.std.specs.Prelude.{◌≡◌, ◌⊎◌, ℕ, ◌+◌, Bool, true, false, List, [], ◌∷◌, Option, Some}
-use Rattle.std.specs.Prelude.{None}
-use Rattle.std.specs.List.{list_all}
+use Rattle.std.specs.Prelude.{◌≡◌, ◌⊎◌, ℕ, ◌+◌, List, [], ◌∷◌, Option, Some, None}
 use Rattle.esc_term.specs.declared.formula.Formula.{Formula}
 use Rattle.esc_term.specs.declared.term.Sym.{Sym}
 use Rattle.esc_fact.specs.declared.base.Base.{Base}
 use Rattle.esc_form.specs.declared.command.Command.{Command}
 use Rattle.esc_form.specs.declared.command.Kind.{Kind}
 use Rattle.esc_form.specs.declared.command.Kind.TheVariants as kind
-use Rattle.esc_outcome.specs.Found.{IsInvalid, IsValid}
+use Rattle.esc_outcome.specs.Found.{IsValid}
 use Rattle.esc_options.specs.declared.options.Limits.{Limits}
 use Rattle.esc_report.specs.Goals.{base_of}
-use Rattle.esc_report.specs.Supported.{is_supported}
 use Rattle.esc_report.specs.declared.report.Refusal.TheVariants.{NothingToPop, Redefined}
-use Rattle.esc_report.specs.declared.report.Refusal.TheVariants.{Unsupported}
 use Rattle.esc_report.specs.declared.report.Report.{Report}
 use Rattle.esc_report.specs.declared.report.Report.TheVariants as report
 use Rattle.esc_verdict.specs.Causes.{IsCause}
+use Rattle.esc_verdict.specs.Found.{IsInvalid}
 use Rattle.esc_answers.specs.State.{AreRules, IsDefined, IsPopped, State, with_batch, with_goal}
 
 -- ---- goals
@@ -37,10 +34,6 @@ AnswersGoal limits base number place (report.Refused at why) = ⊥
 AnswersGoal limits base number place report.Done = ⊥
 
 -- ---- other commands
-
--- the command is of a form that is not answered yet, and nothing changes
-abbrev pub IsUnsupported : State → ℕ → Report → State → Type 0
-IsUnsupported s place r t = (r ≡ report.Refused place Unsupported) × (t ≡ s)
 
 -- memory is wanting for a command that is no goal, and nothing changes
 abbrev pub LacksMemory : State → ℕ → Report → State → Type 0
@@ -63,36 +56,20 @@ Defines s place name_place predicate rule r t =
     (Assumes s place (Some predicate) (rule ∷ []) r t × (IsDefined s predicate → ⊥))
     ⊎ ((r ≡ report.Refused name_place Redefined) × (t ≡ s) × IsDefined s predicate)
 
--- ---- by the form, where it is answered
-
--- a goal is counted where it is answered
-abbrev pub GoalWhere : Bool → Limits → State → ℕ → Formula → Report → State → Type 0
-GoalWhere true limits s place f r t =
-    AnswersGoal limits (base_of s.assumed f) (s.goals + 1) place r × (t ≡ with_goal s)
-GoalWhere false limits s place f r t = IsUnsupported s place r t
-
-abbrev pub PushWhere : Bool → State → ℕ → List Formula → Report → State → Type 0
-PushWhere true s place fs r t = Assumes s place None fs r t
-PushWhere false s place fs r t = IsUnsupported s place r t
-
-abbrev pub RuleWhere : Bool → State → ℕ → ℕ → Sym × ℕ → Formula → Report → State → Type 0
-RuleWhere true s place name_place predicate rule r t =
-    Defines s place name_place predicate rule r t
-RuleWhere false s place name_place predicate rule r t = IsUnsupported s place r t
-
 -- ---- commands
 
 -- nothing is done
 abbrev pub IsIdle : State → Report → State → Type 0
 IsIdle s r t = (r ≡ report.Done) × (t ≡ s)
 
+-- by the form of the command; a goal is counted
 abbrev pub AnswersKind : Limits → State → ℕ → Kind → Report → State → Type 0
-AnswersKind limits s place (kind.Goal f) r t = GoalWhere (is_supported f) limits s place f r t
-AnswersKind limits s place (kind.Push fs) r t =
-    PushWhere (list_all is_supported fs) s place fs r t
+AnswersKind limits s place (kind.Goal f) r t =
+    AnswersGoal limits (base_of s.assumed f) (s.goals + 1) place r × (t ≡ with_goal s)
+AnswersKind limits s place (kind.Push fs) r t = Assumes s place None fs r t
 AnswersKind limits s place kind.Pop r t = Pops s place r t
 AnswersKind limits s place (kind.Define name count name_place (Some rule)) r t =
-    RuleWhere (is_supported rule) s place name_place (name, count) rule r t
+    Defines s place name_place (name, count) rule r t
 AnswersKind limits s place (kind.Define name count name_place None) r t = IsIdle s r t
 AnswersKind limits s place kind.Prompt r t = IsIdle s r t
 

@@ -9,7 +9,7 @@ use Rattle.esc_form.specs.declared.command.Kind.TheVariants.{Goal}
 use Rattle.esc_outcome.specs.TreeLaws.{occurrences_in}
 use Rattle.esc_options.specs.declared.options.Limits.{Limits}
 use Rattle.esc_report.specs.Goals.{IsFreeGoal, base_of}
-use Rattle.esc_report.specs.Supported.{is_supported}
+use Rattle.esc_report.specs.PlainFormulas.{is_plain_formula}
 use Rattle.esc_report.specs.declared.report.Report.{Report}
 use Rattle.esc_report.specs.declared.report.Report.TheVariants as report
 use Rattle.esc_verdict.specs.declared.cause.Cause.{Cause}
@@ -21,34 +21,25 @@ use Rattle.esc_answers.specs.State.{State}
 abbrev pub IsRefutedGoal : List Formula → Formula → Type 0
 IsRefutedGoal assumed goal = Refuted (formulas_in (base_of assumed goal))
 
--- ---- what is assumed
-
--- each formula that is assumed is of a form that is answered
-abbrev pub IsSupportedState : State → Type 0
-IsSupportedState s = IsTrue (list_all is_supported s.assumed)
-
--- and stays so
-abbrev pub StatesAreSupported : Type 0
-StatesAreSupported = (s t : State) (command : Command) (limits : Limits) (r : Report)
-    → Answers s command limits r t → IsSupportedState s → IsSupportedState t
-
--- ---- goals that are answered
+-- ---- plain goals
 
 -- where it is said to be valid, its negation is refuted with what is assumed
 abbrev pub IsSoundOf : List Formula → Formula → Report → Type 0
 IsSoundOf assumed goal (report.Valid number log formulas) = IsRefutedGoal assumed goal
 IsSoundOf assumed goal r = Unit {0}
 
+-- so it is where nothing is drawn from either
 abbrev pub AnswersAreSound : Type 0
 AnswersAreSound =
     (s t : State) (command : Command) (limits : Limits) (r : Report) (goal : Formula)
-    → Answers s command limits r t → command.kind ≡ Goal goal → IsSupportedState s
-    → IsTrue (is_supported goal) → IsSoundOf s.assumed goal r
+    → Answers s command limits r t → command.kind ≡ Goal goal
+    → IsTrue (list_all is_plain_formula s.assumed) → IsTrue (is_plain_formula goal)
+    → IsSoundOf s.assumed goal r
 
 -- ---- goals without arithmetic
 
--- the splits ran out, and fewer are allowed than a tree over the occurrences of the goal and of what
--- is assumed can have
+-- the splits ran out, and fewer are allowed than a tree over the occurrences of the goal and of
+-- what is assumed can have
 abbrev pub IsShortOfSplits : List Formula → Formula → Limits → Cause → Type 0
 IsShortOfSplits assumed goal limits (cause.Splits branch next) =
     limits.splits < 2 ^ occurrences_in (formulas_in (base_of assumed goal))
@@ -57,8 +48,8 @@ IsShortOfSplits assumed goal limits (cause.Pivots branch stuck) = ⊥
 IsShortOfSplits assumed goal limits (cause.Rounds branch made) = ⊥
 IsShortOfSplits assumed goal limits (cause.Facts branch next) = ⊥
 
--- it is said to be valid where its negation is refuted with what is assumed, and to be invalid where
--- it is not, unless memory or splits are wanting
+-- it is said to be valid where its negation is refuted with what is assumed, and to be invalid
+-- where it is not, unless memory or splits are wanting
 abbrev pub IsSharpOf : List Formula → Formula → Limits → Report → Type 0
 IsSharpOf assumed goal limits (report.Valid number log formulas) = IsRefutedGoal assumed goal
 IsSharpOf assumed goal limits (report.Invalid number found) = IsRefutedGoal assumed goal → ⊥

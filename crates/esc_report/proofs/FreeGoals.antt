@@ -15,8 +15,8 @@ use Rattle.esc_cover.specs.Classes.{active_terms}
 use Rattle.esc_cover.specs.Laws.{is_free_form, is_free_of_arithmetic, is_order_form}
 use Rattle.esc_cover.proofs.AtomsLevels.{atoms_of-Not}
 use Rattle.esc_cover.proofs.TestLemmas.{and_left, and_right}
-use Rattle.esc_report.specs.Laws.{FreeGoalIsPlainAndFree, SupportedIsPlain}
-use Rattle.esc_report.specs.Supported.{is_supported}
+use Rattle.esc_report.specs.Laws.{FreeGoalIsPlainAndFree, PlainGoalIsPlain}
+use Rattle.esc_report.specs.PlainFormulas.{is_plain_formula}
 
 free-Not : (f : Formula) → is_free_of_arithmetic (Not f) ≡ is_free_of_arithmetic f
 free-Not f =
@@ -40,20 +40,20 @@ module _ (assumed : List Formula) (goal : Formula) where
       ∙ (ap (λ ts. flat_map terms_of assumed ++ (ts ++ [])) (terms_of-Not goal)
       ∙ sym (flat_map-append terms_of assumed (goal ∷ []))))
 
-  module _ (supported : list_all is_supported (assumed ++ goal ∷ []) ≡ true) where
-    both : (list_all is_supported assumed && (is_supported goal && true)) ≡ true
-    both = sym (list_all-append is_supported assumed (goal ∷ [])) ∙ supported
+  module _ (plain : list_all is_plain_formula (assumed ++ goal ∷ []) ≡ true) where
+    both : (list_all is_plain_formula assumed && (is_plain_formula goal && true)) ≡ true
+    both = sym (list_all-append is_plain_formula assumed (goal ∷ [])) ∙ plain
 
-    pub assumed_supported : list_all is_supported assumed ≡ true
-    assumed_supported = and_left _ _ both
+    pub assumed_plain : list_all is_plain_formula assumed ≡ true
+    assumed_plain = and_left _ _ both
 
-    pub goal_supported : is_supported goal ≡ true
-    goal_supported = and_left _ _ (and_right _ _ both)
+    pub goal_plain : is_plain_formula goal ≡ true
+    goal_plain = and_left _ _ (and_right _ _ both)
 
-pub free_goal_is_plain_and_free : SupportedIsPlain → FreeGoalIsPlainAndFree
+pub free_goal_is_plain_and_free : PlainGoalIsPlain → FreeGoalIsPlainAndFree
 free_goal_is_plain_and_free plain assumed goal is = record {
-  plain = plain assumed goal (assumed_supported assumed goal is.supported)
-      (goal_supported assumed goal is.supported);
+  plain = plain assumed goal (assumed_plain assumed goal is.plain)
+      (goal_plain assumed goal is.plain);
   free = with_negated assumed goal is_free_of_arithmetic (free-Not goal) is.free;
   numerals = λ n h.
       is.numerals n

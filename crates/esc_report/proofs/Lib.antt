@@ -4,4 +4,4 @@ pub mod FreeGoals
 pub mod Joining
 pub mod NamesReadBack
 pub mod Plain
-pub mod SupportedLevels
+pub mod PlainLevels

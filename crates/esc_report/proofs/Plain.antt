@@ -1,4 +1,4 @@
--- From goals that are answered nothing is drawn.
+-- From plain goals and assumptions nothing is drawn.
 use Rattle.std.proofs.Common.{◌≡◌, ℕ, Bool, true, false, ◌&&◌, List, [], ◌∷◌, ◌++◌, map, length}
 use Rattle.std.proofs.Common.{refl, sym, subst, ap, ap₂, ◌∙◌, inl, inr}
 use Rattle.std.specs.List.{Contains, flat_map, list_all}
@@ -36,15 +36,15 @@ use Rattle.esc_fact.proofs.Quantifiers.{under-Implies, under-Iff, under-Eq, unde
 use Rattle.esc_fact.proofs.Quantifiers.{under-Distinct, under-LabelPos, under-LabelNeg}
 use Rattle.esc_outcome.specs.PlainLaws.{IsPlain}
 use Rattle.esc_report.specs.Goals.{base_of}
-use Rattle.esc_report.specs.Laws.{SupportedIsPlain}
-use Rattle.esc_report.specs.Supported.{is_plain_head, is_plain_term, is_supported}
-use Rattle.esc_report.proofs.SupportedLevels.{is_plain_term-App}
-use Rattle.esc_report.proofs.SupportedLevels.{is_supported-And, is_supported-Distinct}
-use Rattle.esc_report.proofs.SupportedLevels.{is_supported-Eq, is_supported-Exists}
-use Rattle.esc_report.proofs.SupportedLevels.{is_supported-Forall, is_supported-Iff}
-use Rattle.esc_report.proofs.SupportedLevels.{is_supported-Implies, is_supported-LabelNeg}
-use Rattle.esc_report.proofs.SupportedLevels.{is_supported-LabelPos, is_supported-Less}
-use Rattle.esc_report.proofs.SupportedLevels.{is_supported-Not, is_supported-Or}
+use Rattle.esc_report.specs.Laws.{PlainGoalIsPlain}
+use Rattle.esc_report.specs.PlainFormulas.{is_plain_head, is_plain_term, is_plain_formula}
+use Rattle.esc_report.proofs.PlainLevels.{is_plain_term-App}
+use Rattle.esc_report.proofs.PlainLevels.{is_plain_formula-And, is_plain_formula-Distinct}
+use Rattle.esc_report.proofs.PlainLevels.{is_plain_formula-Eq, is_plain_formula-Exists}
+use Rattle.esc_report.proofs.PlainLevels.{is_plain_formula-Forall, is_plain_formula-Iff}
+use Rattle.esc_report.proofs.PlainLevels.{is_plain_formula-Implies, is_plain_formula-LabelNeg}
+use Rattle.esc_report.proofs.PlainLevels.{is_plain_formula-LabelPos, is_plain_formula-Less}
+use Rattle.esc_report.proofs.PlainLevels.{is_plain_formula-Not, is_plain_formula-Or}
 
 -- ---- lists
 
@@ -129,13 +129,14 @@ plain_inside = ind-Term PlainInside
 
 -- ---- formulas
 
-record IsPlainFormula (f : Formula) : Type 0 where
+-- no write and no quantified formula stands in it
+record BringsNothing (f : Formula) : Type 0 where
   terms : (t : Term) → Contains (terms_of f) t → is_plain_top t ≡ true
   unquantified : (d : ℕ) → quantified_under f d ≡ []
 
 plain_parts : (g : Formula) (fs : List Formula) → terms_of g ≡ flat_map terms_of fs
     → ((d : ℕ) → quantified_under g d ≡ flat_map (λ f. quantified_under f d) fs)
-    → ((f : Formula) → Contains fs f → IsPlainFormula f) → IsPlainFormula g
+    → ((f : Formula) → Contains fs f → BringsNothing f) → BringsNothing g
 plain_parts g fs terms under parts = record {
   terms = λ t h.
       let found = Contains-flat_map terms_of fs t
@@ -145,12 +146,12 @@ plain_parts g fs terms under parts = record {
       under d ∙ flat_none (λ f. quantified_under f d) fs (λ f h. (parts f h).unquantified d);
 }
 
-none_plain : (f : Formula) → Contains [] f → IsPlainFormula f
+none_plain : (f : Formula) → Contains [] f → BringsNothing f
 none_plain f h = absurd (Contains-none f h)
 
 plain_one : (g f : Formula) → terms_of g ≡ terms_of f
-    → ((d : ℕ) → quantified_under g d ≡ quantified_under f d) → IsPlainFormula f
-    → IsPlainFormula g
+    → ((d : ℕ) → quantified_under g d ≡ quantified_under f d) → BringsNothing f
+    → BringsNothing g
 plain_one g f terms under part = record {
   terms = λ t h. part.terms t (subst (λ (ts : List Term). Contains ts t) terms h);
   unquantified = λ d. under d ∙ part.unquantified d;
@@ -158,7 +159,7 @@ plain_one g f terms under part = record {
 
 plain_two : (h f g : Formula) → terms_of h ≡ terms_of f ++ terms_of g
     → ((d : ℕ) → quantified_under h d ≡ quantified_under f d ++ quantified_under g d)
-    → IsPlainFormula f → IsPlainFormula g → IsPlainFormula h
+    → BringsNothing f → BringsNothing g → BringsNothing h
 plain_two h f g terms under left right = record {
   terms = λ t k.
       elim (Contains-append_cases (terms_of f) (terms_of g) t
@@ -172,7 +173,7 @@ plain_two h f g terms under left right = record {
 
 plain_pair : (f : Formula) (s t : Term) → terms_of f ≡ subterms s ++ subterms t
     → ((d : ℕ) → quantified_under f d ≡ []) → (is_plain_term s && is_plain_term t) ≡ true
-    → IsPlainFormula f
+    → BringsNothing f
 plain_pair f s t terms under both = record {
   terms = λ u h.
       elim (Contains-append_cases (subterms s) (subterms t) u
@@ -184,7 +185,7 @@ plain_pair f s t terms under both = record {
 }
 
 abbrev PlainOutside : Formula → Type 0
-PlainOutside f = is_supported f ≡ true → IsPlainFormula f
+PlainOutside f = is_plain_formula f ≡ true → BringsNothing f
 
 abbrev Any_quant : Quant → Type 0
 Any_quant q = Unit {0}
@@ -199,49 +200,49 @@ plain_outside_at (Formula-F.And es) p =
     let fs : List Formula = map (λ e. e.0) es in
     plain_parts (And fs) fs (terms_of-And fs) (λ d. under-And d fs)
     (λ f there. held PlainOutside es f there
-    (all_at is_supported fs f (sym (is_supported-And fs) ∙ p) there))
+    (all_at is_plain_formula fs f (sym (is_plain_formula-And fs) ∙ p) there))
 plain_outside_at (Formula-F.Or es) p =
     let fs : List Formula = map (λ e. e.0) es in
     plain_parts (Or fs) fs (terms_of-Or fs) (λ d. under-Or d fs)
     (λ f there. held PlainOutside es f there
-    (all_at is_supported fs f (sym (is_supported-Or fs) ∙ p) there))
+    (all_at is_plain_formula fs f (sym (is_plain_formula-Or fs) ∙ p) there))
 plain_outside_at (Formula-F.Not e) p =
     plain_one (Not e.0) e.0 (terms_of-Not e.0) (λ d. under-Not d e.0)
-    (e.1 (sym (is_supported-Not e.0) ∙ p))
+    (e.1 (sym (is_plain_formula-Not e.0) ∙ p))
 plain_outside_at (Formula-F.Implies d e) p =
-    let both : (is_supported d.0 && is_supported e.0) ≡ true =
-    sym (is_supported-Implies d.0 e.0) ∙ p in
+    let both : (is_plain_formula d.0 && is_plain_formula e.0) ≡ true =
+    sym (is_plain_formula-Implies d.0 e.0) ∙ p in
     plain_two (Implies d.0 e.0) d.0 e.0 (terms_of-Implies d.0 e.0)
     (λ n. under-Implies n d.0 e.0) (d.1 (and_left _ _ both)) (e.1 (and_right _ _ both))
 plain_outside_at (Formula-F.Iff d e) p =
-    let both : (is_supported d.0 && is_supported e.0) ≡ true =
-    sym (is_supported-Iff d.0 e.0) ∙ p in
+    let both : (is_plain_formula d.0 && is_plain_formula e.0) ≡ true =
+    sym (is_plain_formula-Iff d.0 e.0) ∙ p in
     plain_two (Iff d.0 e.0) d.0 e.0 (terms_of-Iff d.0 e.0)
     (λ n. under-Iff n d.0 e.0) (d.1 (and_left _ _ both)) (e.1 (and_right _ _ both))
 plain_outside_at (Formula-F.Forall q) p =
-    let clash : false ≡ true = sym (is_supported-Forall q.0) ∙ p in cc
+    let clash : false ≡ true = sym (is_plain_formula-Forall q.0) ∙ p in cc
 plain_outside_at (Formula-F.Exists q) p =
-    let clash : false ≡ true = sym (is_supported-Exists q.0) ∙ p in cc
+    let clash : false ≡ true = sym (is_plain_formula-Exists q.0) ∙ p in cc
 plain_outside_at (Formula-F.Eq s t) p =
     plain_pair (Eq s t) s t (terms_of-Eq s t) (λ d. under-Eq d s t)
-    (sym (is_supported-Eq s t) ∙ p)
+    (sym (is_plain_formula-Eq s t) ∙ p)
 plain_outside_at (Formula-F.Less s t) p =
     plain_pair (Less s t) s t (terms_of-Less s t) (λ d. under-Less d s t)
-    (sym (is_supported-Less s t) ∙ p)
+    (sym (is_plain_formula-Less s t) ∙ p)
 plain_outside_at (Formula-F.Distinct ts) p = record {
   terms = λ u h.
       let found = Contains-flat_map subterms ts u
       (subst (λ (us : List Term). Contains us u) (terms_of-Distinct ts) h) in
       plain_inside found.0
-      (all_at is_plain_term ts found.0 (sym (is_supported-Distinct ts) ∙ p) found.1) u found.2;
+      (all_at is_plain_term ts found.0 (sym (is_plain_formula-Distinct ts) ∙ p) found.1) u found.2;
   unquantified = λ d. under-Distinct d ts;
 }
 plain_outside_at (Formula-F.LabelPos name e) p =
     plain_one (LabelPos name e.0) e.0 (terms_of-LabelPos name e.0)
-    (λ d. under-LabelPos d name e.0) (e.1 (sym (is_supported-LabelPos name e.0) ∙ p))
+    (λ d. under-LabelPos d name e.0) (e.1 (sym (is_plain_formula-LabelPos name e.0) ∙ p))
 plain_outside_at (Formula-F.LabelNeg name e) p =
     plain_one (LabelNeg name e.0) e.0 (terms_of-LabelNeg name e.0)
-    (λ d. under-LabelNeg d name e.0) (e.1 (sym (is_supported-LabelNeg name e.0) ∙ p))
+    (λ d. under-LabelNeg d name e.0) (e.1 (sym (is_plain_formula-LabelNeg name e.0) ∙ p))
 
 plain_outside : (f : Formula) → PlainOutside f
 plain_outside = ind-Formula PlainOutside Any_quant
@@ -251,19 +252,20 @@ plain_outside = ind-Formula PlainOutside Any_quant
 -- ---- goals
 
 module _ (assumed : List Formula) (goal : Formula)
-    (supported : list_all is_supported assumed ≡ true) (goal_is : is_supported goal ≡ true) where
+    (plain : list_all is_plain_formula assumed ≡ true)
+    (goal_is : is_plain_formula goal ≡ true) where
   abbrev with_goal : List Formula
   with_goal = assumed ++ Not goal ∷ []
 
-  each_plain : (f : Formula) → Contains with_goal f → IsPlainFormula f
+  each_plain : (f : Formula) → Contains with_goal f → BringsNothing f
   each_plain f h =
       elim (Contains-append_cases assumed (Not goal ∷ []) f h) [
-        | inl there ↦ plain_outside f (all_at is_supported assumed f supported there)
+        | inl there ↦ plain_outside f (all_at is_plain_formula assumed f plain there)
         | inr last ↦
             elim (Contains-cases (Not goal) [] f last) [
               | inl same ↦
-                  subst IsPlainFormula same
-                  (plain_outside (Not goal) (is_supported-Not goal ∙ goal_is))
+                  subst BringsNothing same
+                  (plain_outside (Not goal) (is_plain_formula-Not goal ∙ goal_is))
               | inr none ↦ absurd (Contains-none f none)
             ]
       ]
@@ -277,5 +279,5 @@ module _ (assumed : List Formula) (goal : Formula)
         no_store m i x ((each_plain found.0 found.1).terms (store m i x) found.2);
   }
 
-pub supported_is_plain : SupportedIsPlain
-supported_is_plain = plain_base
+pub plain_goal_is_plain : PlainGoalIsPlain
+plain_goal_is_plain = plain_base

@@ -6,16 +6,15 @@ use Rattle.esc_term.specs.declared.formula.Formula.TheVariants.{Not}
 use Rattle.esc_cover.specs.Laws.{is_free_of_arithmetic}
 use Rattle.esc_fact.specs.declared.base.Base.{Base}
 use Rattle.esc_outcome.specs.FreeLaws.{NumeralsAreSmall}
-use Rattle.esc_report.specs.Supported.{is_supported}
+use Rattle.esc_report.specs.PlainFormulas.{is_plain_formula}
 
 -- what is assumed, and the negated goal
 abbrev pub base_of : List Formula → Formula → Base
 base_of assumed goal = record { background = assumed; negated = Some (Not goal) }
 
--- formulas that are answered, without sums, differences, products and orders; their numerals are
--- small
+-- plain formulas without sums, differences, products and orders; their numerals are small
 pub record AreFree (fs : List Formula) : Type 0 where
-  pub supported : IsTrue (list_all is_supported fs)
+  pub plain : IsTrue (list_all is_plain_formula fs)
   pub free : IsTrue (list_all is_free_of_arithmetic fs)
   pub numerals : NumeralsAreSmall fs
 

@@ -3,6 +3,6 @@ pub mod Goals
 pub mod Laws
 pub mod Listed
 pub mod LogText
+pub mod PlainFormulas
 pub mod PrintingLaws
-pub mod Supported
 pub mod Text

@@ -16,7 +16,6 @@ use Rattle.esc_report.specs.FoundText.{found_text}
 use Rattle.esc_report.specs.LogText.{log_text}
 use Rattle.esc_report.specs.declared.report.Refusal.{Refusal}
 use Rattle.esc_report.specs.declared.report.Refusal.TheVariants.{Form, NothingToPop, Redefined}
-use Rattle.esc_report.specs.declared.report.Refusal.TheVariants.{Unsupported}
 use Rattle.esc_report.specs.declared.report.Report.{Report}
 use Rattle.esc_report.specs.declared.report.Report.TheVariants.{Valid, Invalid, Unknown}
 use Rattle.esc_report.specs.declared.report.Report.TheVariants.{Refused, Memory, Done}
@@ -64,7 +63,6 @@ form_text EmptyList = codes "empty list"
 
 abbrev pub refusal_text : Refusal → List ℕ
 refusal_text (Form kind) = form_text kind
-refusal_text Unsupported = codes "not supported yet"
 refusal_text NothingToPop = codes "nothing to pop"
 refusal_text Redefined = codes "predicate defined already"
 

@@ -8,9 +8,7 @@ mod listed;
 mod log;
 mod put;
 mod report;
-mod supported;
 
 pub use laws::{goal_laws, printing_laws};
 pub use put::put_report;
 pub use report::{Refusal, Report};
-pub use supported::{are_supported, is_supported};

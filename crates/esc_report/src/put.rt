@@ -140,7 +140,6 @@ fn refusal_text(why: Refusal) -> &'static [u8]
 {
     match why {
         Refusal::Form(kind) => form_text(kind),
-        Refusal::Unsupported => b"not supported yet",
         Refusal::NothingToPop => b"nothing to pop",
         Refusal::Redefined => b"predicate defined already",
     }

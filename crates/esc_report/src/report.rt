@@ -11,8 +11,6 @@ use esc_verdict::Cause;
 pub enum Refusal {
     /// The expression is no command, and this is the first thing that is wrong with it.
     Form(FormKind),
-    /// The prover does not answer this form yet.
-    Unsupported,
     /// No push is in force.
     NothingToPop,
     /// A rule for this predicate is in force.
@@ -38,8 +36,7 @@ pub enum Report {
         cause: Cause,
     },
     /// The place is that of the first byte of what is wrong, of the name of a predicate that is
-    /// defined already, or of the command where its form is not answered yet or there is nothing
-    /// to pop.
+    /// defined already, or of the command where there is nothing to pop.
     Refused {
         place: u64,
         why: Refusal,

@@ -17,7 +17,7 @@ use Rattle.esc_live.specs.View.{literals_on, logged}
 use Rattle.esc_live.specs.declared.branch.LiveBranch.{LiveBranch}
 use Rattle.esc_options.specs.declared.options.Limits.{Limits}
 use Rattle.esc_fact.specs.Depth.{IsWithinLimits}
-use Rattle.esc_outcome.specs.Found.{IsInvalid, IsValid}
+use Rattle.esc_outcome.specs.Found.{IsValid}
 use Rattle.esc_outcome.specs.FoundLaws.{RefutedIsValid}
 use Rattle.esc_outcome.specs.GrownLaws.{FirstIsLegal}
 use Rattle.esc_outcome.proofs.PlainBases.{formulas_first}
@@ -26,6 +26,8 @@ use Rattle.esc_outcome.specs.declared.counterexample.Counterexample.{Counterexam
 use Rattle.esc_report.specs.declared.report.Report.TheVariants as report
 use Rattle.esc_search.specs.Proving.{IsLeftOpen, IsRefutedLog, IsStopped, live_facts}
 use Rattle.esc_search.specs.declared.search.Search.{Search}
+use Rattle.esc_verdict.specs.Found.{IsInvalid}
+use Rattle.esc_verdict.specs.Rounds.{AreMatched, IsSaturated}
 use Rattle.esc_verdict.specs.declared.cause.Cause.{Cause}
 use Rattle.esc_session.specs.ReportingInside.{AnswersBase}
 
@@ -62,19 +64,28 @@ valid_answers limits base number log formulas valid place =
 module _ (base : Base) (s : Search) (v : LiveBranch) (here : v ≡ s.branch) (live : List Fact)
     (literals : List Item) (live_is : live ≡ live_facts s)
     (literals_are : literals ≡ literals_on v) where
+  same_literals : literals ≡ literals_on s.branch
+  same_literals = literals_are ∙ ap literals_on here
+
   pub left_here : IsLeftOpen base s → IsLeft base v.sharing live literals
   left_here h = subst (λ (w : LiveBranch). IsLeft base w.sharing live literals) (sym here)
       (subst₂ (λ facts items. IsLeft base s.branch.sharing facts items) (sym live_is)
-      (sym (literals_are ∙ ap literals_on here)) h.left)
+      (sym same_literals) h.left)
 
   found_invalid : (found : Counterexample) → IsLeftOpen base s
       → Tells base v.sharing live literals found → IsInvalid base s.limits found
-  found_invalid found h tells = record {
-    within = subst (IsWithinLimits base s.limits.depth s.limits.facts)
-        (sym (tells.facts ∙ live_is)) h.within;
-    counterexample = tells.counterexample;
-    labels = tells.labels;
-  }
+  found_invalid found h tells =
+      let facts_are : found.facts ≡ live_facts s = tells.facts ∙ live_is in
+      let items_are : found.literals ≡ literals_on s.branch = tells.literals_are ∙ same_literals in
+      record {
+        within = subst (IsWithinLimits base s.limits.depth s.limits.facts) (sym facts_are)
+            h.within;
+        counterexample = tells.counterexample;
+        saturated = subst₂ (IsSaturated base s.limits.depth) (sym facts_are) (sym items_are)
+            h.saturated;
+        matched = subst₂ (AreMatched base) (sym facts_are) (sym items_are) h.matched;
+        labels = tells.labels;
+      }
 
   pub invalid_answers : (number : ℕ) (found : Counterexample) → IsLeftOpen base s
       → Tells base v.sharing live literals found

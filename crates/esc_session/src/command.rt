@@ -15,7 +15,7 @@ ghost use Rattle.esc_term.specs.Formula.{is_closed};
 
 use crate::session::Session;
 use esc_form::{Command, Kind};
-use esc_report::{Refusal, Report, are_supported};
+use esc_report::{Refusal, Report};
 use esc_term::Formulas;
 
 impl Session {
@@ -32,10 +32,6 @@ impl Session {
             self.new.search.tally }
         ensures leaves { LeavesRest self.old self.new }
     {
-        if !are_supported(formulas.as_slice()) {
-            let why = Refusal::Unsupported;
-            return Report::Refused { place, why };
-        }
         match self.push(None, formulas) {
             Ok(()) => Report::Done,
             Err(_) => Report::Memory { goal: None, place },

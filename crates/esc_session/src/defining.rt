@@ -12,7 +12,7 @@ ghost use Rattle.esc_session.specs.View.{has_closed, state_of};
 ghost use Rattle.esc_term.specs.Formula.{is_closed};
 
 use crate::session::Session;
-use esc_report::{Refusal, Report, is_supported};
+use esc_report::{Refusal, Report};
 use esc_term::{Formula, Sym};
 use sqlite_items::Items;
 use std::alloc::AllocError;
@@ -54,11 +54,6 @@ impl Session {
             self.new.search.tally }
         ensures leaves { LeavesRest self.old self.new }
     {
-        if !is_supported(&rule) {
-            drop(rule);
-            let why = Refusal::Unsupported;
-            return Report::Refused { place, why };
-        }
         if self.is_defined(name, count) {
             drop(rule);
             let why = Refusal::Redefined;

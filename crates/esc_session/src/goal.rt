@@ -15,7 +15,7 @@ ghost use Rattle.esc_term.specs.Formula.{is_closed};
 use crate::reporting::sought;
 use crate::session::Session;
 use esc_fact::Base;
-use esc_report::{Refusal, Report, is_supported};
+use esc_report::Report;
 use esc_search::search_laws;
 use esc_term::{Formula, refutation_laws};
 use sqlite_items::Boxed;
@@ -55,7 +55,7 @@ impl Session {
         report
     }
 
-    /// Counts a goal and answers it, where its form is answered.
+    /// Counts a goal and answers it.
     pub(crate) fn answer_goal(&mut self, formula: Formula, place: u64) -> Report
         requires between { IsBetween self.old }
         requires closed { IsTrue (is_closed formula) }
@@ -69,10 +69,6 @@ impl Session {
             self.new.search.tally }
         ensures limits { self.new.limits ≡ self.old.limits }
     {
-        if !is_supported(&formula) {
-            let why = Refusal::Unsupported;
-            return Report::Refused { place, why };
-        }
         self.goals += 1;
         let goal = self.goals;
         match self.report(goal, formula) {

@@ -1,7 +1,7 @@
 -- Which status comes exactly where, and what holds of the answers.
 use Rattle.std.specs.Prelude.{◌≡◌, ◌≤◌, ◌<◌, ◌↔◌, ◌⊎◌, ℕ, Bool, true, false, IsTrue, List, length}
 use Rattle.std.specs.Prelude.{take, Option, Some, Ok, Err}
-use Rattle.std.specs.List.{AllZip}
+use Rattle.std.specs.List.{AllZip, list_all}
 use Rattle.esc_options.specs.declared.options.Limits.{Limits}
 use Rattle.esc_options.specs.declared.options.Options.{Options}
 use Rattle.esc_sexp.specs.declared.sexp.Sexp.{Sexp}
@@ -10,7 +10,7 @@ use Rattle.esc_sexp.specs.Grammar.{Reads, broken, whole}
 use Rattle.esc_term.specs.declared.formula.Formula.{Formula}
 use Rattle.esc_form.specs.declared.command.Kind.TheVariants.{Goal}
 use Rattle.esc_report.specs.Goals.{IsFreeGoal}
-use Rattle.esc_report.specs.Supported.{is_supported}
+use Rattle.esc_report.specs.PlainFormulas.{is_plain_formula}
 use Rattle.esc_answers.specs.Laws.{IsSharpOf, IsSoundOf}
 use Rattle.esc_words.specs.Uses.{Text}
 use Rattle.esc_words.specs.Words.{AsksFor}
@@ -81,10 +81,11 @@ abbrev pub IsGoal : Sexp → Told → Formula → Type 0
 IsGoal e told goal =
     (place : ℕ) × ReadsAs told.names e (Ok (record { place = place; kind = Goal goal }))
 
--- where the expression is a goal of the kind that is answered, and is said to be valid, its
--- negation is refuted with what was assumed then
+-- where the expression is a goal without quantifiers and writes to maps, as all that was assumed
+-- then, and is said to be valid, its negation is refuted with what was assumed
 abbrev pub IsSoundAt : Sexp → Told → Type 0
-IsSoundAt e told = (goal : Formula) → IsGoal e told goal → IsTrue (is_supported goal)
+IsSoundAt e told = (goal : Formula) → IsGoal e told goal
+    → IsTrue (list_all is_plain_formula told.before.assumed) → IsTrue (is_plain_formula goal)
     → IsSoundOf told.before.assumed goal told.report
 
 -- where both have no arithmetic, it is said to be valid just where its negation is refuted with

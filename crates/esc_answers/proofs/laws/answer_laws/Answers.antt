@@ -1,4 +1,3 @@
-use Rattle.esc_answers.proofs.Assuming.{states_are_supported}
 use Rattle.esc_answers.proofs.Told.{answers_are_sharp, answers_are_sound}
 use Rattle.esc_answers.proofs.laws.answer_laws.Goals as goal
 
@@ -8,7 +7,6 @@ returns c =
     let plain = c.plain_laws.ensures in
     let verdict = c.verdict_laws.ensures in
     record {
-      supported = states_are_supported;
       sound = answers_are_sound plain.valid goals.plain;
-      sharp = answers_are_sharp plain.valid plain.not_refuted verdict.splits goals.free;
+      sharp = answers_are_sharp plain.valid verdict.plain verdict.splits goals.free;
     }

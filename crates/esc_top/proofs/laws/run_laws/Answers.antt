@@ -10,6 +10,6 @@ returns c =
     record {
       status = status_is_due reading.found_stays reading.fault_stays reading.expression
           reading.either reading.reading;
-      sound = runs_are_sound answers.sound answers.supported names.stay names.numbered;
-      sharp = runs_are_sharp answers.sharp answers.supported names.stay names.numbered;
+      sound = runs_are_sound answers.sound names.stay names.numbered;
+      sharp = runs_are_sharp answers.sharp names.stay names.numbered;
     }

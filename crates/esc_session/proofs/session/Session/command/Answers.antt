@@ -3,12 +3,12 @@ use Rattle.esc_term.specs.declared.formula.Formula.{Formula}
 use Rattle.esc_form.specs.Laws.{IsClosedKind}
 use Rattle.esc_form.specs.declared.command.Kind.{Kind}
 use Rattle.esc_form.specs.declared.command.Kind.TheVariants as kind
-use Rattle.esc_report.specs.Supported.{is_supported}
 use Rattle.esc_report.specs.declared.report.Report.TheVariants as report
 use Rattle.esc_answers.specs.Answers.{AnswersKind}
+use Rattle.esc_answers.specs.State.{State}
 use Rattle.esc_session.specs.Acts.{Acts}
 use Rattle.esc_session.specs.View.{state_of}
-use Rattle.esc_session.proofs.Replying.{goal_rests, goals_counted, rests_here}
+use Rattle.esc_session.proofs.Replying.{goal_rests, rests_here}
 use Rattle.esc_session.proofs.session.Session.command.Goals as goal
 
 -- ---- what is called is closed
@@ -122,10 +122,7 @@ returns-in-Prompt-clause-acts c =
 
 pub returns-in-Goal-clause-counted : goal.returns-in-Goal-clause-counted
 returns-in-Goal-clause-counted c =
-    let f = c.in-Goal.formula in
-    let s = c.args.self.now in
-    goals_counted (is_supported f) s.limits (state_of s) c.args.command.place f c.answer_goal.result
-    (state_of c.answer_goal.new.self) c.answer_goal.ensures.answers
+    omega (arith, ap (λ (s : State). s.goals) c.answer_goal.ensures.answers.1)
 
 pub returns-in-Push-clause-counted : goal.returns-in-Push-clause-counted
 returns-in-Push-clause-counted c = omega (arith, c.answer_push.ensures.leaves.goals)

@@ -1,4 +1,4 @@
--- Which goals are answered so far.
+-- Formulas from which nothing is drawn.
 use Rattle.std.specs.Prelude.{ℕ, Bool, true, false, not, ◌&&◌, ◌==◌, length}
 use Rattle.std.specs.List.{list_all}
 use Rattle.esc_term.specs.declared.term.Head.{Head}
@@ -25,22 +25,22 @@ plain_term_step (Term-F.App head args) = is_plain_head head (length args)
 unfoldable pub is_plain_term : Term → Bool
 is_plain_term = fold-Term Bool plain_term_step
 
-abbrev pub supported_step : Formula-F Bool Unit → Bool
-supported_step Formula-F.True = true
-supported_step Formula-F.False = true
-supported_step (Formula-F.And parts) = list_all (λ part. part) parts
-supported_step (Formula-F.Or parts) = list_all (λ part. part) parts
-supported_step (Formula-F.Not part) = part
-supported_step (Formula-F.Implies left right) = left && right
-supported_step (Formula-F.Iff left right) = left && right
-supported_step (Formula-F.Forall quant) = false
-supported_step (Formula-F.Exists quant) = false
-supported_step (Formula-F.Eq left right) = is_plain_term left && is_plain_term right
-supported_step (Formula-F.Less left right) = is_plain_term left && is_plain_term right
-supported_step (Formula-F.Distinct terms) = list_all is_plain_term terms
-supported_step (Formula-F.LabelPos name part) = part
-supported_step (Formula-F.LabelNeg name part) = part
+abbrev pub plain_formula_step : Formula-F Bool Unit → Bool
+plain_formula_step Formula-F.True = true
+plain_formula_step Formula-F.False = true
+plain_formula_step (Formula-F.And parts) = list_all (λ part. part) parts
+plain_formula_step (Formula-F.Or parts) = list_all (λ part. part) parts
+plain_formula_step (Formula-F.Not part) = part
+plain_formula_step (Formula-F.Implies left right) = left && right
+plain_formula_step (Formula-F.Iff left right) = left && right
+plain_formula_step (Formula-F.Forall quant) = false
+plain_formula_step (Formula-F.Exists quant) = false
+plain_formula_step (Formula-F.Eq left right) = is_plain_term left && is_plain_term right
+plain_formula_step (Formula-F.Less left right) = is_plain_term left && is_plain_term right
+plain_formula_step (Formula-F.Distinct terms) = list_all is_plain_term terms
+plain_formula_step (Formula-F.LabelPos name part) = part
+plain_formula_step (Formula-F.LabelNeg name part) = part
 
--- a formula without quantifiers and writes
-unfoldable pub is_supported : Formula → Bool
-is_supported = fold-Formula Bool Unit supported_step (λ quant. tt)
+-- a formula without quantifiers and writes, which is plain
+unfoldable pub is_plain_formula : Formula → Bool
+is_plain_formula = fold-Formula Bool Unit plain_formula_step (λ quant. tt)
