@@ -27,18 +27,16 @@ use Rattle.esc_fact.specs.declared.fact.Fact.{Fact}
 use Rattle.esc_fact.specs.declared.fact.Fact.TheVariants as fact
 use Rattle.esc_outcome.specs.Causes.{IsStuck}
 use Rattle.esc_outcome.specs.PlainLaws.{IsPlain, IsPlainAndFree, PlainHasFirstFacts}
-use Rattle.esc_outcome.specs.PlainLaws.{PlainIsNotRefuted, PlainRunsOutOfSplits}
+use Rattle.esc_outcome.specs.PlainLaws.{PlainIsNotStuck, PlainRunsOutOfSplits}
 use Rattle.esc_outcome.specs.PlainLaws.{PlainValidIsRefuted}
 use Rattle.esc_outcome.specs.TreeLaws.{occurrences_in}
 use Rattle.esc_outcome.specs.declared.branch.Branch.{Branch}
-use Rattle.esc_outcome.specs.declared.branch.Cause.TheVariants as cause
 use Rattle.esc_options.specs.declared.options.Limits.{Limits}
 use Rattle.esc_outcome.specs.declared.stuck.Stuck.{Stuck}
 use Rattle.esc_outcome.proofs.Branches.{splits_run_out_early}
 use Rattle.esc_outcome.proofs.Decided.{not_none}
 use Rattle.esc_outcome.proofs.FirstFacts.{given_at, givens, many}
 use Rattle.esc_outcome.proofs.NoJam.{free_has_no_jam}
-use Rattle.esc_outcome.proofs.Verdicts.{invalid_is_not_refuted}
 use Rattle.esc_outcome.proofs.Numbers.{active-among}
 use Rattle.esc_outcome.proofs.Paths.{slice_get_append_left, slice_get_push}
 
@@ -161,44 +159,35 @@ plain_valid_is_refuted base log formulas plain valid =
     ∙ (ap (formulas_of base) (plain_has_first_facts base log plain valid.legal)
     ∙ formulas_first base)) valid.refuted
 
-pub plain_is_not_refuted : PlainIsNotRefuted
-plain_is_not_refuted base limits found is invalid =
-    invalid_is_not_refuted base limits found invalid
-    (subst (λ fs. list_all is_free_of_arithmetic fs ≡ true)
-    (sym (ap (formulas_of base)
-    (plain_has_first_facts base found.facts is.plain invalid.within.legal)
-    ∙ formulas_first base)) is.free)
-
-module _ (base : Base) (limits : Limits) (branch : Branch) (is : IsPlainAndFree base) where
-  log_among : IsLegalFront base branch.log
+module _ (base : Base) (limits : Limits) (branch : Branch) where
+  log_among : IsPlain base → IsLegalFront base branch.log
       → All (Contains (formulas_in base)) (formulas_of base branch.log)
-  log_among front =
+  log_among plain front =
       let fs = formulas_of base branch.log in
       let whole : fs ++ formulas_of base front.more ≡ formulas_in base =
       sym (filter_map-append (formula_of base) branch.log front.more)
       ∙ ap (formulas_of base)
-      (plain_has_first_facts base (branch.log ++ front.more) is.plain front.legal)
+      (plain_has_first_facts base (branch.log ++ front.more) plain front.legal)
       ∙ formulas_first base in
       subst (λ gs. All (Contains gs) fs) whole
       (All-weaker (Contains fs) (Contains (fs ++ formulas_of base front.more))
       (Contains-append_left fs (formulas_of base front.more)) fs (All-contains_itself fs))
 
-  not_stuck : (stuck : Stuck) → IsStuck base limits branch stuck → ⊥
-  not_stuck stuck stops =
+  not_stuck : (stuck : Stuck) → IsPlainAndFree base → IsStuck base limits branch stuck → ⊥
+  not_stuck stuck is stops =
       let fs = formulas_of base branch.log in
-      let among = log_among stops.grown.log in
+      let among = log_among is.plain stops.grown.log in
       free_has_no_jam fs limits.pivots stuck
       (all_from is_free_of_arithmetic fs (λ f h.
       all_at is_free_of_arithmetic (formulas_in base) f is.free
       (All-contains (Contains (formulas_in base)) fs f among h)))
       (λ n h. is.numerals n (active-among fs (formulas_in base) among _ h)) stops.jam
 
+pub plain_is_not_stuck : PlainIsNotStuck
+plain_is_not_stuck = not_stuck
+
 pub plain_runs_out_of_splits : PlainRunsOutOfSplits
-plain_runs_out_of_splits base limits (cause.Overflow branch stuck) is h =
-    absurd (not_stuck base limits branch is stuck h.0)
-plain_runs_out_of_splits base limits (cause.Pivots branch stuck) is h =
-    absurd (not_stuck base limits branch is stuck h.0)
-plain_runs_out_of_splits base limits (cause.Splits branch next) is h =
+plain_runs_out_of_splits base limits branch next plain h =
     subst (λ fs. limits.splits < 2 ^ occurrences_in fs)
-    (ap (formulas_of base) (plain_has_first_facts base branch.log is.plain h.legal)
+    (ap (formulas_of base) (plain_has_first_facts base branch.log plain h.legal)
     ∙ formulas_first base) (splits_run_out_early base limits branch next h)

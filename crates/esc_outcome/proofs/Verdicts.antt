@@ -20,7 +20,7 @@ use Rattle.esc_fact.specs.declared.base.Base.{Base}
 use Rattle.esc_fact.specs.declared.fact.Fact.{Fact}
 use Rattle.esc_fact.specs.declared.fact.Fact.TheVariants as fact
 use Rattle.esc_outcome.specs.Found.{members_of, values_of}
-use Rattle.esc_outcome.specs.FoundLaws.{InvalidIsNotRefuted, RefutedIsValid}
+use Rattle.esc_outcome.specs.FoundLaws.{CounterexampleIsNotRefuted, RefutedIsValid}
 use Rattle.esc_outcome.proofs.Decided.{not_none}
 use Rattle.esc_outcome.proofs.FirstFacts.{given_at, givens, many}
 
@@ -79,12 +79,12 @@ base_in_facts base facts legal =
     (All-weaker (Contains first) (Contains (first ++ more)) (Contains-append_left first more)
     (formulas_in base) (in_first base))
 
-pub invalid_is_not_refuted : InvalidIsNotRefuted
-invalid_is_not_refuted base limits found is free refuted =
+pub counterexample_is_not_refuted : CounterexampleIsNotRefuted
+counterexample_is_not_refuted base found legal is free refuted =
     not_refuted found.literals (members_of found.classes) (values_of found.classes)
-    (formulas_of base found.facts) free is.counterexample
+    (formulas_of base found.facts) free is
     (among_more (formulas_in base) (formulas_of base found.facts)
-    (base_in_facts base found.facts is.within.legal) refuted)
+    (base_in_facts base found.facts legal) refuted)
 
 -- ---- valid goals
 

@@ -1,5 +1,5 @@
--- What holds of a branch that stopped, by the cause that is told.
-use Rattle.std.specs.Prelude.{◌≡◌, Bool, true, false, IsTrue, if◌then◌else◌, List, length}
+-- What holds of a branch that stopped.
+use Rattle.std.specs.Prelude.{◌≡◌, Bool, true, false, if◌then◌else◌, List, length}
 use Rattle.std.specs.List.{All}
 use Rattle.esc_term.specs.declared.formula.Formula.{Formula}
 use Rattle.esc_term.specs.declared.formula.Formula.TheVariants.{Eq, Not}
@@ -15,8 +15,6 @@ use Rattle.esc_outcome.specs.Grown.{Grown}
 use Rattle.esc_outcome.specs.Jam.{IsJam}
 use Rattle.esc_outcome.specs.Tree.{IsFree, IsOccurrence, IsUndecidedAt, formulas_at}
 use Rattle.esc_outcome.specs.declared.branch.Branch.{Branch}
-use Rattle.esc_outcome.specs.declared.branch.Cause.{Cause}
-use Rattle.esc_outcome.specs.declared.branch.Cause.TheVariants as cause
 use Rattle.esc_options.specs.declared.options.Limits.{Limits}
 use Rattle.esc_outcome.specs.declared.stuck.Stuck.{Stuck}
 
@@ -66,12 +64,3 @@ pub record IsOutOfSplits (base : Base) (limits : Limits) (branch : Branch) (next
   pub free : IsFree branch.splits branch.under
   pub next_there : IsOccurrence (formulas_of base branch.log) next
   pub next_new : IsUndecidedAt branch.splits branch.under next
-
--- ---- all causes
-
-abbrev pub IsCause : Base → Limits → Cause → Type 0
-IsCause base limits (cause.Overflow branch stuck) =
-    IsStuck base limits branch stuck × IsTrue (is_overflow stuck.jam)
-IsCause base limits (cause.Pivots branch stuck) =
-    IsStuck base limits branch stuck × IsTrue (is_endless stuck.jam)
-IsCause base limits (cause.Splits branch next) = IsOutOfSplits base limits branch next

@@ -5,18 +5,19 @@ use Rattle.esc_term.specs.declared.term.Term.{Term}
 use Rattle.esc_term.specs.declared.formula.Formula.{Formula}
 use Rattle.esc_term.specs.Formula.{terms_of}
 use Rattle.esc_term.specs.Refuted.{Refuted}
+use Rattle.esc_clause.specs.declared.occurrence.Occurrence.{Occurrence}
 use Rattle.esc_cover.specs.Laws.{is_free_of_arithmetic}
 use Rattle.esc_fact.specs.Base.{formulas_in, quantified_in}
 use Rattle.esc_fact.specs.Fact.{store}
 use Rattle.esc_fact.specs.Legal.{IsLegal, first_facts}
 use Rattle.esc_fact.specs.declared.base.Base.{Base}
 use Rattle.esc_fact.specs.declared.fact.Fact.{Fact}
-use Rattle.esc_outcome.specs.Causes.{IsCause}
-use Rattle.esc_outcome.specs.Found.{IsInvalid, IsValid}
+use Rattle.esc_outcome.specs.Causes.{IsOutOfSplits, IsStuck}
+use Rattle.esc_outcome.specs.Found.{IsValid}
 use Rattle.esc_outcome.specs.FreeLaws.{NumeralsAreSmall}
 use Rattle.esc_outcome.specs.TreeLaws.{occurrences_in}
-use Rattle.esc_outcome.specs.declared.branch.Cause.{Cause}
-use Rattle.esc_outcome.specs.declared.counterexample.Counterexample.{Counterexample}
+use Rattle.esc_outcome.specs.declared.branch.Branch.{Branch}
+use Rattle.esc_outcome.specs.declared.stuck.Stuck.{Stuck}
 use Rattle.esc_options.specs.declared.options.Limits.{Limits}
 
 -- no quantified formula, and no map with a new value
@@ -41,12 +42,13 @@ abbrev pub PlainValidIsRefuted : Type 0
 PlainValidIsRefuted = (base : Base) (log : List Fact) (formulas : List Formula) → IsPlain base
     → IsValid base log formulas → Refuted (formulas_in base)
 
--- a counterexample to a base without arithmetic shows that it is not refuted
-abbrev pub PlainIsNotRefuted : Type 0
-PlainIsNotRefuted = (base : Base) (limits : Limits) (found : Counterexample)
-    → IsPlainAndFree base → IsInvalid base limits found → Refuted (formulas_in base) → ⊥
+-- on a base without arithmetic none of it is stuck
+abbrev pub PlainIsNotStuck : Type 0
+PlainIsNotStuck = (base : Base) (limits : Limits) (branch : Branch) (stuck : Stuck)
+    → IsPlainAndFree base → IsStuck base limits branch stuck → ⊥
 
--- a search over such a base stops only where fewer splits are allowed than a tree can have
+-- splits run out only where fewer are allowed than a tree over the base can have
 abbrev pub PlainRunsOutOfSplits : Type 0
-PlainRunsOutOfSplits = (base : Base) (limits : Limits) (cause : Cause) → IsPlainAndFree base
-    → IsCause base limits cause → limits.splits < 2 ^ occurrences_in (formulas_in base)
+PlainRunsOutOfSplits = (base : Base) (limits : Limits) (branch : Branch) (next : Occurrence)
+    → IsPlain base → IsOutOfSplits base limits branch next
+    → limits.splits < 2 ^ occurrences_in (formulas_in base)

@@ -1,6 +1,5 @@
-//! Branches of a search, and why one stopped.
+//! Branches of a search.
 
-use crate::stuck::Stuck;
 use esc_clause::Occurrence;
 use esc_fact::Facts;
 use sqlite_items::Items;
@@ -30,15 +29,4 @@ pub struct Branch {
     pub splits: Splits,
     /// Where the search is.
     pub under: Side,
-}
-
-/// Why a search stopped, with the branch on which it did.
-#[derive(Drop)]
-pub enum Cause {
-    /// A step of the arithmetic does not fit.
-    Overflow(Branch, Stuck),
-    /// A maximising takes more pivots than are allowed.
-    Pivots(Branch, Stuck),
-    /// There are as many splits as are allowed, and this would be the next.
-    Splits(Branch, Occurrence),
 }

@@ -1,21 +1,21 @@
 //! What holds of what a search comes to. The functions state it, and do nothing.
 
-ghost use Rattle.esc_outcome.specs.FoundLaws.{InvalidIsNotRefuted, RefutedIsValid};
+ghost use Rattle.esc_outcome.specs.FoundLaws.{CounterexampleIsNotRefuted, RefutedIsValid};
 ghost use Rattle.esc_outcome.specs.FreeLaws.{FreeHasNoJam};
 ghost use Rattle.esc_outcome.specs.GrownLaws.{EmptyIsGrown, FirstIsLegal, GrownByFact};
 ghost use Rattle.esc_outcome.specs.GrownLaws.{GrownByFirst, GrownBySplit, GrownElsewhere};
 ghost use Rattle.esc_outcome.specs.GrownLaws.{SplitsRunOutEarly};
 ghost use Rattle.esc_outcome.specs.JamLaws.{GivenAfterCall, GivenByMore, StopIsJam, ToldFollows};
-ghost use Rattle.esc_outcome.specs.PlainLaws.{PlainHasFirstFacts, PlainIsNotRefuted};
+ghost use Rattle.esc_outcome.specs.PlainLaws.{PlainHasFirstFacts, PlainIsNotStuck};
 ghost use Rattle.esc_outcome.specs.PlainLaws.{PlainRunsOutOfSplits, PlainValidIsRefuted};
 ghost use Rattle.esc_outcome.specs.Stopping.{StopsIsStopped};
 ghost use Rattle.esc_outcome.specs.TreeLaws.{DecidedStays, NewSidesAreFree, PathBelow, PathsStay};
 ghost use Rattle.esc_outcome.specs.TreeLaws.{RefutedByMore, RefutedStays, RootCloses, SidesClose};
 ghost use Rattle.esc_outcome.specs.TreeLaws.{TreeGrows, TreeIsSmall, TreeStays};
 
-/// A stop of the arithmetic is a jam of the formulas that gave it its terms, whichever call answered
-/// it, and the pairs that it was told follow from these formulas where its literals do. Formulas
-/// without arithmetic have no jam.
+/// A stop of the arithmetic is a jam of the formulas that gave it its terms, whichever call
+/// answered it, and the pairs that it was told follow from these formulas where its literals do.
+/// Formulas without arithmetic have no jam.
 pub fn jam_laws()
     ensures jam { StopIsJam }
     ensures stopped { StopsIsStopped }
@@ -60,15 +60,15 @@ pub fn branch_laws()
 /// counterexample is not refuted, where no fact has arithmetic.
 pub fn found_laws()
     ensures valid { RefutedIsValid }
-    ensures not_refuted { InvalidIsNotRefuted }
+    ensures not_refuted { CounterexampleIsNotRefuted }
 {}
 
 /// From a base without quantified formulas and maps with new values nothing is drawn, so that a
-/// valid log refutes it. Where it has no arithmetic either, a counterexample to it shows that it is
-/// not refuted, and a search over it stops only where fewer splits are allowed than a tree can have.
+/// valid log refutes it, and splits run out only where fewer are allowed than a tree can have.
+/// Where it has no arithmetic either, none of it is stuck.
 pub fn plain_laws()
     ensures first { PlainHasFirstFacts }
     ensures valid { PlainValidIsRefuted }
-    ensures not_refuted { PlainIsNotRefuted }
+    ensures not_stuck { PlainIsNotStuck }
     ensures splits { PlainRunsOutOfSplits }
 {}

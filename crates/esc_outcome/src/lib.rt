@@ -1,4 +1,4 @@
-//! What a search comes to: a counterexample, or a branch that stopped, with its cause.
+//! What a search comes to: counterexamples, branches, and what is kept of a stop.
 #![tactic(auto)]
 
 mod branch;
@@ -7,7 +7,7 @@ mod keeping;
 mod laws;
 mod stuck;
 
-pub use branch::{Branch, Cause, Side, Sides, Split, Splits};
+pub use branch::{Branch, Side, Sides, Split, Splits};
 pub use counterexample::{Class, Classes, Counterexample, Literals, Syms};
 pub use keeping::stuck_of;
 pub use laws::{branch_laws, found_laws, jam_laws, plain_laws, tree_laws};

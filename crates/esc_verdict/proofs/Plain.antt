@@ -1,29 +1,21 @@
 -- From a base without quantified formulas and maps with new values nothing is drawn.
-use Rattle.std.proofs.Common.{◌≡◌, List, [], ◌∷◌, ◌++◌, length, sym, ap, subst}
+use Rattle.std.proofs.Common.{◌≡◌, true, List, [], ◌∷◌, ◌++◌, length, sym, ap, subst}
 use Rattle.std.proofs.Common.{◌∙◌, arith, length-append}
+use Rattle.std.specs.List.{list_all}
+use Rattle.esc_cover.specs.Laws.{is_free_of_arithmetic}
+use Rattle.esc_fact.specs.Fact.{formulas_of}
 use Rattle.esc_fact.specs.Legal.{IsLegal}
 use Rattle.esc_fact.specs.declared.base.Base.{Base}
 use Rattle.esc_fact.specs.declared.fact.Fact.{Fact}
 use Rattle.esc_options.specs.declared.options.Limits.{Limits}
-use Rattle.esc_outcome.specs.Found as outcome
-use Rattle.esc_outcome.specs.PlainLaws.{IsPlain, IsPlainAndFree, PlainHasFirstFacts}
+use Rattle.esc_outcome.specs.FoundLaws.{CounterexampleIsNotRefuted}
+use Rattle.esc_outcome.specs.PlainLaws.{IsPlain, PlainHasFirstFacts, PlainIsNotStuck}
 use Rattle.esc_outcome.specs.PlainLaws as plain
-use Rattle.esc_outcome.specs.declared.branch.Cause.TheVariants as older
-use Rattle.esc_outcome.specs.declared.counterexample.Counterexample.{Counterexample}
+use Rattle.esc_outcome.proofs.PlainBases.{formulas_first}
 use Rattle.esc_rounds.specs.Laws.{RoundsAreLegal}
 use Rattle.esc_verdict.specs.Causes.{IsOutOfFacts, IsOutOfRounds}
-use Rattle.esc_verdict.specs.Found.{IsInvalid}
-use Rattle.esc_verdict.specs.Laws.{PlainRunsOutOfSplits}
+use Rattle.esc_verdict.specs.Laws.{PlainIsNotRefuted, PlainRunsOutOfSplits}
 use Rattle.esc_verdict.specs.declared.cause.Cause.TheVariants as cause
-
--- what is known of it without its rounds
-pub found_alone : (base : Base) (limits : Limits) (found : Counterexample)
-    → IsInvalid base limits found → outcome.IsInvalid base limits found
-found_alone base limits found is = record {
-  within = is.within;
-  counterexample = is.counterexample;
-  labels = is.labels;
-}
 
 -- ---- nothing is drawn
 
@@ -54,15 +46,24 @@ module _ (first : PlainHasFirstFacts) (base : Base) (is : IsPlain base) where
       → IsOutOfFacts base limits branch next → ⊥
   no_facts limits branch next out = not_longer branch.log [] next out.legal out.next_legal
 
-pub runs_out_of_splits : PlainHasFirstFacts → plain.PlainRunsOutOfSplits → RoundsAreLegal
-    → PlainRunsOutOfSplits
-runs_out_of_splits first splits rounds base limits (cause.Overflow branch stuck) is h =
-    splits base limits (older.Overflow branch stuck) is h
-runs_out_of_splits first splits rounds base limits (cause.Pivots branch stuck) is h =
-    splits base limits (older.Pivots branch stuck) is h
-runs_out_of_splits first splits rounds base limits (cause.Splits branch next) is h =
-    splits base limits (older.Splits branch next) is h
-runs_out_of_splits first splits rounds base limits (cause.Rounds branch made) is h =
+-- ---- what is told of such a base
+
+pub is_not_refuted : PlainHasFirstFacts → CounterexampleIsNotRefuted → PlainIsNotRefuted
+is_not_refuted first not_refuted base limits found is invalid =
+    not_refuted base found invalid.within.legal invalid.counterexample
+    (subst (λ fs. list_all is_free_of_arithmetic fs ≡ true)
+    (sym (ap (formulas_of base) (first base found.facts is.plain invalid.within.legal)
+    ∙ formulas_first base)) is.free)
+
+pub runs_out_of_splits : PlainHasFirstFacts → PlainIsNotStuck → plain.PlainRunsOutOfSplits
+    → RoundsAreLegal → PlainRunsOutOfSplits
+runs_out_of_splits first free splits rounds base limits (cause.Overflow branch stuck) is h =
+    absurd (free base limits branch stuck is h.0)
+runs_out_of_splits first free splits rounds base limits (cause.Pivots branch stuck) is h =
+    absurd (free base limits branch stuck is h.0)
+runs_out_of_splits first free splits rounds base limits (cause.Splits branch next) is h =
+    splits base limits branch next is.plain h
+runs_out_of_splits first free splits rounds base limits (cause.Rounds branch made) is h =
     absurd (no_rounds first base is.plain rounds limits branch made h)
-runs_out_of_splits first splits rounds base limits (cause.Facts branch next) is h =
+runs_out_of_splits first free splits rounds base limits (cause.Facts branch next) is h =
     absurd (no_facts first base is.plain limits branch next h)
