@@ -2,7 +2,7 @@
 use Rattle.std.proofs.Common.{◌≡◌, ◌⊎◌, ℕ, ◌<◌, ◌≤◌, ◌^◌, true, IsTrue, List, [], ◌∷◌, ◌++◌, Some}
 use Rattle.std.proofs.Common.{None, length, get_or, refl, sym, ap, ap₂, subst, subst₂, ◌∙◌, inl}
 use Rattle.std.proofs.Common.{inr, arith}
-use Rattle.std.specs.List.{Contains, filter_map}
+use Rattle.std.specs.List.{Contains}
 use Rattle.std.proofs.lemmas.List.{get_or_append_left, get_or_push, length-append, length_push}
 use Rattle.std.proofs.lemmas.List.Elements.{All-cons, All-get_or, All-head, All-push, All-tail}
 use Rattle.std.proofs.lemmas.List.Elements.{All-weaker, Contains-append_left, filter_map-append}
@@ -12,16 +12,16 @@ use Rattle.esc_fact.specs.Fact.{formula_of, formulas_of}
 use Rattle.esc_fact.specs.Legal.{IsLegalFront, is_first}
 use Rattle.esc_fact.specs.declared.base.Base.{Base}
 use Rattle.esc_fact.specs.declared.fact.Fact.{Fact}
-use Rattle.esc_outcome.specs.Grown.{AreMet, EachIsMade, Grown, IsDoneIn, IsPlace, IsShallowAmong}
+use Rattle.esc_outcome.specs.Grown.{EachIsMade, Grown, IsDoneIn, IsMadeBy, IsPlace, IsShallowAmong}
 use Rattle.esc_outcome.specs.Grown.{makers_of}
 use Rattle.esc_outcome.specs.GrownLaws.{GrownByFact, GrownBySplit, GrownElsewhere, IsMadeOn}
 use Rattle.esc_outcome.specs.GrownLaws.{SplitsRunOutEarly, with_fact, with_split_of}
 use Rattle.esc_outcome.specs.Tree.{IsFree, IsOccurrence, IsRefutedAt, IsSideAmong, IsUndecidedAt}
-use Rattle.esc_outcome.specs.Tree.{Side, SplitTree, path_formulas, said_by}
+use Rattle.esc_outcome.specs.Tree.{Side, SplitTree, path_of}
 use Rattle.esc_outcome.specs.TreeLaws.{occurrences_in}
 use Rattle.esc_outcome.specs.declared.branch.Branch.{Branch}
 use Rattle.esc_outcome.specs.declared.branch.Split.{Split}
-use Rattle.esc_outcome.proofs.Decided.{decided_stays, refuted_by_more, refuted_stays}
+use Rattle.esc_outcome.proofs.Decided.{path_each, refuted_by_more, refuted_stays}
 use Rattle.esc_outcome.proofs.Growing.{IsSideAmong-more, tree_grows, tree_stays, turn_for}
 use Rattle.esc_outcome.proofs.Paths.{paths_stay}
 use Rattle.esc_outcome.proofs.SmallTrees.{tree_is_small}
@@ -98,8 +98,7 @@ module _ (base : Base) (depth : ℕ) (branch : Branch) (grown : Grown base depth
         let below : length before < length branch.log =
         omega (arith, ap length e, length-append before (fact ∷ after)) in
         let side = get_or branch.sides (length before) None in
-        subst (λ path. AreMet (formulas_of base before) (filter_map (said_by fs) path)
-        (makers_of base fact))
+        subst (λ way. IsMadeBy (formulas_of base before) way (makers_of base fact))
         (sym (paths_stay branch.splits (split ∷ []) side (side_there (length before) below)))
         (grown.made before after fact e)
 
@@ -158,14 +157,8 @@ module _ (base : Base) (depth : ℕ) (branch : Branch) (grown : Grown base depth
     -- what makes the fact is met at the place that these sides name for it
     abbrev EachIsMadeAt : List Side → List Fact → Fact → Type 0
     EachIsMadeAt sides before f =
-        AreMet (formulas_of base before)
-        (path_formulas gs branch.splits (get_or sides (length before) None)) (makers_of base f)
-
-    decided_same : (side : Side)
-        → path_formulas gs branch.splits side ≡ path_formulas fs branch.splits side
-    decided_same side =
-        ap (λ hs. path_formulas hs branch.splits side) longer
-        ∙ decided_stays fs more branch.splits side grown.splits.occur
+        IsMadeBy (formulas_of base before)
+        (path_of branch.splits (get_or sides (length before) None)) (makers_of base f)
 
     place_more : (side : Side) → IsPlace (IsDoneIn base branch) branch.splits side
         → IsPlace (IsDoneIn base (with_fact branch fact)) branch.splits side
@@ -181,23 +174,25 @@ module _ (base : Base) (depth : ℕ) (branch : Branch) (grown : Grown base depth
         (All-head (IsPlace (IsDoneIn base branch) branch.splits) branch.under branch.sides
         grown.places)
 
-    -- the last fact is made where the branch is
+    -- the last fact is made where the branch is, since all splits are of what stands before it
     made_last : EachIsMadeAt (branch.sides ++ branch.under ∷ []) branch.log fact
     made_last =
-        subst (λ decided. AreMet fs decided (makers_of base fact))
-        (sym (ap (path_formulas gs branch.splits)
-        (get_or_push branch.sides branch.under None (length branch.log) grown.one_side_each)
-        ∙ decided_same branch.under)) is_made
+        subst (λ side. IsMadeBy fs (path_of branch.splits side) (makers_of base fact))
+        (sym (get_or_push branch.sides branch.under None (length branch.log) grown.one_side_each))
+        (record {
+          earlier = path_each (IsOccurrence fs) branch.splits branch.under grown.splits.occur;
+          met = is_made;
+        })
 
     made_before : (before rest : List Fact) (f : Fact) → branch.log ≡ before ++ (f ∷ rest)
         → EachIsMadeAt (branch.sides ++ branch.under ∷ []) before f
     made_before before rest f e =
         let below : length before < length branch.sides =
         omega (arith, ap length e, length-append before (f ∷ rest), grown.one_side_each) in
-        subst (λ decided. AreMet (formulas_of base before) decided (makers_of base f))
-        (sym (ap (path_formulas gs branch.splits)
-        (get_or_append_left branch.sides (branch.under ∷ []) None (length before) below)
-        ∙ decided_same (get_or branch.sides (length before) None))) (grown.made before rest f e)
+        subst (λ side. IsMadeBy (formulas_of base before) (path_of branch.splits side)
+        (makers_of base f))
+        (sym (get_or_append_left branch.sides (branch.under ∷ []) None (length before) below))
+        (grown.made before rest f e)
 
     made_more : EachIsMade base (with_fact branch fact)
     made_more before after f e =

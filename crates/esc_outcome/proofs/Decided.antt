@@ -68,6 +68,10 @@ module _ (P : Occurrence → Type 0) where
   unfolding placed
   placed_all splits each = fold_all [] splits (All-nil HasAll) each
 
+  pub path_each : (splits : List Split) (side : Side) → All (λ (s : Split). P s.at) splits
+      → All (λ (d : Decision). P d.at) (path_of splits side)
+  path_each splits side each = path_all (placed splits) (placed_all splits each) side
+
 -- ---- more formulas
 
 pub not_none : {X : Type 0} (o : Option X) → o ≡ None → IsSome o → ⊥
@@ -101,8 +105,7 @@ said_by-more fs more (d ∷ ds) all =
 
 pub decided_stays : DecidedStays
 decided_stays fs more splits side occur =
-    said_by-more fs more (path_of splits side)
-    (path_all (IsOccurrence fs) (placed splits) (placed_all (IsOccurrence fs) splits occur) side)
+    said_by-more fs more (path_of splits side) (path_each (IsOccurrence fs) splits side occur)
 
 -- ---- refuted sides
 

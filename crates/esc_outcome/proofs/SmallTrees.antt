@@ -20,7 +20,7 @@ use Rattle.esc_outcome.specs.Tree.{Placed, Side, named_by, path_of, placed}
 use Rattle.esc_outcome.specs.TreeLaws.{TreeIsSmall, occurrences_in}
 use Rattle.esc_outcome.specs.declared.branch.Split.{Split}
 use Rattle.esc_outcome.proofs.Counting.{AllPairs-map, different_few, few_below}
-use Rattle.esc_outcome.proofs.Decided.{path_all, placed_all}
+use Rattle.esc_outcome.proofs.Decided.{path_each}
 use Rattle.esc_outcome.proofs.Growing.{IsSideAmong-more, all_among}
 use Rattle.esc_outcome.proofs.Paths.{path_below, placed_by}
 
@@ -168,8 +168,7 @@ module _ (fs : List Formula) (splits : List Split) (tree : IsTree splits) (once 
       let few = different_few fs (named_by here) different
       (All-push (IsOccurrence fs) named s.at
       (All-map (IsOccurrence fs) (λ (d : Decision). d.at) path
-      (path_all (IsOccurrence fs) (placed splits) (placed_all (IsOccurrence fs) splits occur)
-      s.under))
+      (path_each (IsOccurrence fs) splits s.under occur))
       (subst (λ (t : Split). IsOccurrence fs t.at) (get_or_from_slice_get splits k s s is)
       (occur k s (slice_get_within splits k s is)))) in
       omega (arith, few, length_push named s.at, length-map path (λ (d : Decision). d.at))

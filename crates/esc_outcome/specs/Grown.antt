@@ -1,7 +1,7 @@
 -- What holds of a branch that a search has come to.
 use Rattle.std.specs.Prelude.{◌≡◌, ◌⊎◌, ◌≤◌, ℕ, IsTrue, List, [], ◌∷◌, ◌++◌, Any, length, map, None}
 use Rattle.std.specs.Prelude.{slice_get, slice_index_or}
-use Rattle.std.specs.List.{All, Contains}
+use Rattle.std.specs.List.{All, Contains, filter_map}
 use Rattle.std.specs.Option.{option_map_or}
 use Rattle.esc_term.specs.declared.term.Term.{Term}
 use Rattle.esc_term.specs.declared.formula.Formula.{Formula}
@@ -9,6 +9,7 @@ use Rattle.esc_term.specs.declared.formula.Formula.TheVariants.{Eq}
 use Rattle.esc_term.specs.Formula.{substituted_quant}
 use Rattle.esc_term.specs.Refuted.{Follows}
 use Rattle.esc_term.specs.Term.{substituted_term}
+use Rattle.esc_clause.specs.declared.decision.Decision.{Decision}
 use Rattle.esc_cover.specs.Classes.{active_terms}
 use Rattle.esc_fact.specs.Base.{Quantified, quantified_in}
 use Rattle.esc_fact.specs.Depth.{deep}
@@ -18,8 +19,8 @@ use Rattle.esc_fact.specs.declared.base.Base.{Base}
 use Rattle.esc_fact.specs.declared.fact.Fact.{Fact}
 use Rattle.esc_fact.specs.declared.fact.Fact.TheVariants as fact
 use Rattle.esc_trigger.specs.Triggers.{triggers}
-use Rattle.esc_outcome.specs.Tree.{ComesInTurn, IsRefutedAt, IsSideAmong, Side, SplitTree}
-use Rattle.esc_outcome.specs.Tree.{path_formulas}
+use Rattle.esc_outcome.specs.Tree.{ComesInTurn, IsOccurrence, IsRefutedAt, IsSideAmong, Side}
+use Rattle.esc_outcome.specs.Tree.{SplitTree, path_of, said_by}
 use Rattle.esc_outcome.specs.declared.branch.Branch.{Branch}
 use Rattle.esc_outcome.specs.declared.branch.Split.{Split}
 
@@ -50,6 +51,13 @@ IsMet fs decided t =
 abbrev pub AreMet : List Formula → List Formula → List (List Term) → Type 0
 AreMet fs decided = Any (All (IsMet fs decided))
 
+-- the formulas meet the terms of one of the lists with what is decided of them on a way
+pub record IsMadeBy (fs : List Formula) (way : List Decision) (makers : List (List Term)) : Type 0
+  where
+    -- nothing is decided there of a fact that they make, or of one after it
+    pub earlier : All (λ d. IsOccurrence fs d.at) way
+    pub met : AreMet fs (filter_map (said_by fs) way) makers
+
 -- ---- how deep a fact lies
 
 -- some facts of the log are a legal list, in which none is too deep and this one stands
@@ -71,9 +79,8 @@ pub record IsPlace (done : Side → Type 0) (splits : List Split) (side : Side) 
 abbrev pub EachIsMade : Base → Branch → Type 0
 EachIsMade base branch =
     (before after : List Fact) (fact : Fact) → branch.log ≡ before ++ fact ∷ after
-    → AreMet (formulas_of base before)
-    (path_formulas (formulas_of base branch.log) branch.splits
-    (slice_index_or branch.sides (length before) None))
+    → IsMadeBy (formulas_of base before)
+    (path_of branch.splits (slice_index_or branch.sides (length before) None))
     (makers_of base fact)
 
 -- a side is done when the formulas of the log are refuted there
