@@ -99,7 +99,6 @@ module _ (law : PlainRunsOutOfSplits) (free : FreeGoalIsPlainAndFree) (limits : 
     least = h.least;
     consistent = h.consistent;
     literals_are = h.literals_are;
-    matched = h.matched;
     follow = h.follow;
   }
 

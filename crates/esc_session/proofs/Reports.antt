@@ -27,7 +27,7 @@ use Rattle.esc_report.specs.declared.report.Report.TheVariants as report
 use Rattle.esc_search.specs.Proving.{IsLeftOpen, IsRefutedLog, IsStopped, live_facts}
 use Rattle.esc_search.specs.declared.search.Search.{Search}
 use Rattle.esc_verdict.specs.Found.{IsInvalid}
-use Rattle.esc_verdict.specs.Rounds.{AreMatched, IsSaturated}
+use Rattle.esc_verdict.specs.Rounds.{AreRounds, IsSaturated}
 use Rattle.esc_verdict.specs.declared.cause.Cause.{Cause}
 use Rattle.esc_session.specs.ReportingInside.{AnswersBase}
 
@@ -83,7 +83,9 @@ module _ (base : Base) (s : Search) (v : LiveBranch) (here : v ≡ s.branch) (li
         counterexample = tells.counterexample;
         saturated = subst₂ (IsSaturated base s.limits.depth) (sym facts_are) (sym items_are)
             h.saturated;
-        matched = subst₂ (AreMatched base) (sym facts_are) (sym items_are) h.matched;
+        starts = h.starts;
+        rounds = subst₂ (λ facts items. AreRounds base s.limits.depth facts items h.starts)
+            (sym facts_are) (sym items_are) h.rounds;
         labels = tells.labels;
       }
 
