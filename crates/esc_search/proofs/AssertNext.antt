@@ -1,8 +1,8 @@
 -- The next fact of a round becomes live, where the search is.
 use Rattle.std.proofs.Common.{◌≡◌, ℕ, ◌<◌, ◌+◌, true, List, [], ◌∷◌, ◌++◌, Option, Some, None}
 use Rattle.std.proofs.Common.{Result}
-use Rattle.std.proofs.Common.{Ok, Err, length, refl, sym, ap, ap₂, subst, ◌∙◌, append_assoc, arith}
-use Rattle.std.proofs.Common.{append-nil, inl, inr, length-append, get_or}
+use Rattle.std.proofs.Common.{Ok, Err, length, refl, sym, ap, ap₂, subst, ◌∙◌, arith}
+use Rattle.std.proofs.Common.{inl, inr, length-append, get_or}
 use Rattle.std.specs.Prelude.{IsSome, slice_get}
 use Rattle.std.specs.Option.{option_and_then}
 use Rattle.std.specs.List.{All, AllPairs, Contains, cons_option, filter_map}
@@ -19,7 +19,6 @@ use Rattle.esc_term.specs.Refuted.{AllTrue}
 use Rattle.esc_term.proofs.Models.{Refuted-from_models}
 use Rattle.esc_cover.specs.Laws.{HoldsIn}
 use Rattle.esc_clause.specs.Occurrences.{item_at}
-use Rattle.esc_clause.specs.declared.decision.Decision.{Decision}
 use Rattle.esc_clause.specs.declared.occurrence.Occurrence.{Occurrence}
 use Rattle.esc_trail.specs.Records.{Records}
 use Rattle.esc_trail.specs.Undo.{Notes}
@@ -33,7 +32,7 @@ use Rattle.esc_fact.specs.declared.fact.Fact.{Fact}
 use Rattle.esc_live.specs.Calls.{AddsLiterals, Ends, GoesLiveOrNothing, HoldsWithFact, IsStoppedAt}
 use Rattle.esc_live.specs.Calls.{MeansMore}
 use Rattle.esc_live.specs.LiveUndo.{live_undo}
-use Rattle.esc_live.specs.Promises.{IsBranch, IsGiven, IsSoundIn}
+use Rattle.esc_live.specs.Promises.{IsGiven}
 use Rattle.esc_live.specs.View.{literals_on, live_on, logged}
 use Rattle.esc_live.specs.declared.branch.LiveBranch.{LiveBranch}
 use Rattle.esc_live.specs.declared.record.LiveRec.{LiveRec}
@@ -41,7 +40,7 @@ use Rattle.esc_live.proofs.LiveAtoms.{Contains-filter_map}
 use Rattle.esc_outcome.specs.Tree.{path_formulas}
 use Rattle.esc_sharing.proofs.Lists.{All-append_left, All-append_right}
 use Rattle.esc_search.specs.SearchInside.{IsHalted, IsKept, IsOpenHere, IsSearch, IsWaiting}
-use Rattle.esc_search.specs.SearchInside.{Reaches, WasDecided, facts_on, said_under}
+use Rattle.esc_search.specs.SearchInside.{Reaches, WasDecided, facts_on}
 use Rattle.esc_search.specs.declared.course.Course.{Course}
 use Rattle.esc_search.specs.declared.search.Search.{Search}
 use Rattle.esc_search.proofs.Asserting.{whole_so}

@@ -1,40 +1,34 @@
 -- The next fact of a round is logged, where the search is.
-use Rattle.std.proofs.Common.{◌≡◌, ℕ, ◌<◌, ◌≤◌, ◌+◌, suc, Bool, true, false, List, [], ◌∷◌, ◌++◌}
+use Rattle.std.proofs.Common.{◌≡◌, ℕ, ◌<◌, ◌≤◌, ◌+◌, Bool, true, false, List, [], ◌∷◌, ◌++◌}
 use Rattle.std.proofs.Common.{Some}
 use Rattle.std.proofs.Common.{None, Option, length, take, refl, sym, ap, ap₂, subst, ◌∙◌}
 use Rattle.std.proofs.Common.{append-nil}
-use Rattle.std.proofs.Common.{append_assoc, arith, inl, inr, length-append, subst₂}
+use Rattle.std.proofs.Common.{append_assoc, arith, inr, length-append, subst₂}
 use Rattle.std.specs.Prelude.{if◌then◌else◌, not, slice_get}
-use Rattle.std.specs.List.{All, AllPairs, Contains, cons_option, filter, filter_map, fold}
+use Rattle.std.specs.List.{All, Contains, cons_option, filter_map, fold}
 use Rattle.std.specs.Option.{option_map_or}
 use Rattle.std.proofs.lemmas.List.{length_push}
 use Rattle.std.proofs.lemmas.List.Elements.{All-contains, All-push, All-weaker}
 use Rattle.std.proofs.lemmas.List.Elements.{Contains-append_left}
-use Rattle.std.proofs.lemmas.List.Elements.{Contains-append_right, Contains-push, filter_map-append}
+use Rattle.std.proofs.lemmas.List.Elements.{Contains-push, filter_map-append}
 use Rattle.esc_term.specs.declared.formula.Formula.{Formula}
-use Rattle.esc_term.specs.declared.formula.Item.{Item}
 use Rattle.esc_term.specs.Model.{Model, read_in}
 use Rattle.esc_term.specs.Refuted.{AllTrue}
-use Rattle.esc_term.proofs.Members.{Contains-here}
 use Rattle.esc_clause.specs.Occurrences.{item_at}
 use Rattle.esc_clause.specs.declared.occurrence.Occurrence.{Occurrence}
-use Rattle.esc_trail.specs.Records.{Records}
-use Rattle.esc_trail.specs.Undo.{CanRewind, Notes, rewind}
 use Rattle.esc_fact.specs.Depth.{Deep, deep, depth_behind, with_depth}
 use Rattle.esc_fact.specs.Fact.{IsFact, formula_of, formulas_of}
 use Rattle.esc_fact.specs.Legal.{IsLegal, first_facts, is_first, made_facts}
 use Rattle.esc_fact.specs.declared.base.Base.{Base}
 use Rattle.esc_fact.specs.declared.fact.Fact.{Fact}
-use Rattle.esc_book.specs.Book.{BookView, IsLiveOccurrence}
-use Rattle.esc_live.specs.LiveUndo.{AreSame, live_undo}
+use Rattle.esc_book.specs.Book.{IsLiveOccurrence}
 use Rattle.esc_live.specs.Promises.{IsBranch, IsGiven, IsSoundIn}
 use Rattle.esc_live.specs.View.{literals_on, live_on, logged}
 use Rattle.esc_live.specs.declared.branch.LiveBranch.{LiveBranch}
-use Rattle.esc_live.specs.declared.record.LiveRec.{LiveRec}
 use Rattle.esc_live.proofs.LogGrows.{filter_map-alike, item_same}
 use Rattle.esc_outcome.specs.Causes.{AllFollow, formulas_on}
 use Rattle.esc_outcome.specs.Grown.{Grown, IsShallowAmong}
-use Rattle.esc_outcome.specs.GrownLaws.{IsMadeOn, with_fact}
+use Rattle.esc_outcome.specs.GrownLaws.{with_fact}
 use Rattle.esc_outcome.specs.Tree.{IsRefutedAt, Side, path_formulas}
 use Rattle.esc_outcome.specs.declared.branch.Split.{Split}
 use Rattle.esc_outcome.proofs.Branches.{grown_by_fact}
@@ -51,7 +45,7 @@ use Rattle.esc_search.specs.Proving.{branch_of, live_facts}
 use Rattle.esc_search.specs.SearchInside.{AreGathered, Climbs, IsAmid, IsKept, IsOpenHere, IsSearch}
 use Rattle.esc_search.specs.SearchInside.{IsWaiting}
 use Rattle.esc_egraph.specs.declared.state.State.TheVariants as state
-use Rattle.esc_search.specs.SearchInside.{WasDecided, WasSplit, facts_on, said_under}
+use Rattle.esc_search.specs.SearchInside.{WasDecided, WasSplit, facts_on}
 use Rattle.esc_search.specs.declared.course.Course.{Course}
 use Rattle.esc_search.specs.declared.open_split.OpenSplit.{OpenSplit}
 use Rattle.esc_search.specs.declared.search.Search.{Search}

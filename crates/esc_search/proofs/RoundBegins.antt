@@ -1,12 +1,12 @@
 -- A round begins where the search is.
-use Rattle.std.proofs.Common.{◌≡◌, ◌≢◌, ℕ, ◌<◌, ◌≤◌, ◌+◌, ◌-◌, ◌*◌, true, List, [], ◌∷◌, ◌++◌}
-use Rattle.std.proofs.Common.{length, take, append_assoc, append-nil, refl, sym, ap, ap₂, subst}
+use Rattle.std.proofs.Common.{◌≡◌, ◌≢◌, ℕ, ◌<◌, ◌+◌, ◌-◌, ◌*◌, List, [], ◌∷◌, ◌++◌}
+use Rattle.std.proofs.Common.{length, append_assoc, append-nil, refl, sym, ap, ap₂, subst}
 use Rattle.std.proofs.Common.{◌∙◌, arith, inl, inr, Option, Some, None}
 use Rattle.std.specs.Prelude.{IsSome, slice_get}
 use Rattle.std.specs.Option.{option_map}
 use Rattle.std.specs.List.{All, Contains}
 use Rattle.std.proofs.lemmas.List.{length_push, take-append-le}
-use Rattle.std.proofs.lemmas.List.Elements.{All-contains_itself, All-head, All-push, All-tail}
+use Rattle.std.proofs.lemmas.List.Elements.{All-contains_itself, All-head, All-tail}
 use Rattle.std.proofs.lemmas.List.Elements.{All-weaker, Contains-append_left}
 use Rattle.std.proofs.lemmas.Option.{slice_get_cases}
 use Rattle.esc_term.specs.declared.formula.Formula.{Formula}
@@ -14,12 +14,9 @@ use Rattle.esc_term.specs.declared.formula.Item.{Item}
 use Rattle.esc_book.specs.Book.{IsLiveOccurrence}
 use Rattle.esc_clause.specs.Occurrences.{formula_at, item_at, signed}
 use Rattle.esc_clause.specs.declared.occurrence.Occurrence.{Occurrence}
-use Rattle.esc_fact.specs.Depth.{Deep, deep}
-use Rattle.esc_fact.specs.Legal.{IsLegal}
 use Rattle.esc_fact.specs.declared.base.Base.{Base}
 use Rattle.esc_fact.specs.declared.fact.Fact.{Fact}
 use Rattle.esc_live.specs.View.{literals_on, logged}
-use Rattle.esc_options.specs.declared.options.Limits.{Limits}
 use Rattle.esc_verdict.specs.RoundLaws.{RoundIsMatched, RoundIsWithin, RoundMayFollow}
 use Rattle.esc_verdict.specs.Rounds.{AreMatched, AreRounds, IsMatched, IsRoundOf}
 use Rattle.esc_verdict.specs.declared.cause.Start.{Start}

@@ -1,5 +1,4 @@
-use Rattle.std.proofs.Common.{refl, ◌∙◌}
-use Rattle.esc_search.proofs.BackTo.{kept_both}
+use Rattle.std.proofs.Common.{refl}
 use Rattle.esc_search.proofs.Reaching.{kept_here}
 use Rattle.esc_search.proofs.search.Search.add_facts.Goals as goal
 
